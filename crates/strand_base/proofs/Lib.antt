@@ -1,0 +1,6 @@
+pub mod Counting
+pub mod Texts
+pub mod Values
+pub mod Again
+pub mod Fronts
+pub mod Taken

@@ -1,0 +1,9 @@
+pub mod Counting
+pub mod Counts
+pub mod FilesSeen
+pub mod SinkSeen
+pub mod ModuleSeen
+pub mod Text
+pub mod Number
+pub mod Puts
+pub mod Hexadecimal

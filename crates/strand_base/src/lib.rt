@@ -1,0 +1,33 @@
+//! What everything stands on: the world outside as traits, with objects in memory and the real
+//! ones, and texts as lines, words and numbers.
+#![tactic(auto)]
+
+mod decimal;
+mod fault_plan;
+mod files;
+mod hexadecimal;
+mod host_files;
+mod host_sink;
+mod lines;
+mod memory_files;
+mod memory_sink;
+mod module;
+mod out_of_memory;
+mod putting;
+mod sink;
+mod writing;
+
+pub use decimal::{NumberFault, print_decimal, read_decimal};
+pub use fault_plan::FaultPlan;
+pub use files::{FetchFault, Files};
+pub use hexadecimal::{hex_digits, print_hex16};
+pub use host_files::HostFiles;
+pub use host_sink::HostSink;
+pub use lines::{LineSpan, content, next_line, next_word};
+pub use memory_files::MemoryFiles;
+pub use memory_sink::MemorySink;
+pub use module::{ModuleFailed, PmModule};
+pub use out_of_memory::OutOfMemory;
+pub use putting::put_all;
+pub use sink::{Sink, SinkFailed};
+pub use writing::{put, put_line};
