@@ -1,5 +1,5 @@
 -- Which instructions an opcode can stand for.
-use Rattle.std.proofs.Common.{◌≡◌, ◌≢◌, ℕ, ◌%◌, ◌⊎◌, inl, inr, refl, ℤ, arith}
+use Rattle.std.proofs.Common.{◌≡◌, ℕ, ◌%◌, ◌⊎◌, inl, inr, refl, ℤ, arith}
 use Rattle.strand_isa.specs.Word.{word_of}
 use Rattle.strand_isa.specs.Codes.{upper_opcode, imm_opcode, shift_opcode, reg_opcode}
 use Rattle.strand_isa.specs.declared.instr.Instr.{Instr}
@@ -16,11 +16,11 @@ use Rattle.strand_isa.specs.declared.instr.ShiftOp.TheVariants.{Slli, Srli, Srai
 use Rattle.strand_isa.specs.declared.instr.RegOp.{RegOp}
 use Rattle.strand_isa.specs.declared.instr.RegOp.TheVariants.{Add, Sub, Sll, Slt, Sltu, Xor, Srl, Sra, Or, And, Addw, Subw, Sllw, Srlw, Sraw}
 
-pub upper_opcode-is : (op : UpperOp) → (upper_opcode op ≡ 55) ⊎ (upper_opcode op ≡ 23)
+pub upper_opcode-is : (op : UpperOp) → (upper_opcode op ≡ 0b0110111) ⊎ (upper_opcode op ≡ 0b0010111)
 upper_opcode-is Lui = inl refl
 upper_opcode-is Auipc = inr refl
 
-pub imm_opcode-is : (op : ImmOp) → (imm_opcode op ≡ 19) ⊎ (imm_opcode op ≡ 27)
+pub imm_opcode-is : (op : ImmOp) → (imm_opcode op ≡ 0b0010011) ⊎ (imm_opcode op ≡ 0b0011011)
 imm_opcode-is Addi = inl refl
 imm_opcode-is Slti = inl refl
 imm_opcode-is Sltiu = inl refl
@@ -29,7 +29,7 @@ imm_opcode-is Ori = inl refl
 imm_opcode-is Andi = inl refl
 imm_opcode-is Addiw = inr refl
 
-pub shift_opcode-is : (op : ShiftOp) → (shift_opcode op ≡ 19) ⊎ (shift_opcode op ≡ 27)
+pub shift_opcode-is : (op : ShiftOp) → (shift_opcode op ≡ 0b0010011) ⊎ (shift_opcode op ≡ 0b0011011)
 shift_opcode-is Slli = inl refl
 shift_opcode-is Srli = inl refl
 shift_opcode-is Srai = inl refl
@@ -37,7 +37,7 @@ shift_opcode-is Slliw = inr refl
 shift_opcode-is Srliw = inr refl
 shift_opcode-is Sraiw = inr refl
 
-pub reg_opcode-is : (op : RegOp) → (reg_opcode op ≡ 51) ⊎ (reg_opcode op ≡ 59)
+pub reg_opcode-is : (op : RegOp) → (reg_opcode op ≡ 0b0110011) ⊎ (reg_opcode op ≡ 0b0111011)
 reg_opcode-is Add = inl refl
 reg_opcode-is Sub = inl refl
 reg_opcode-is Sll = inl refl

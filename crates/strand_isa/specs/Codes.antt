@@ -17,8 +17,8 @@ use Rattle.strand_isa.specs.declared.instr.RegOp.TheVariants.{Add, Sub, Sll, Slt
 
 -- the opcode of an operation on an upper immediate
 abbrev pub upper_opcode : UpperOp → ℕ
-upper_opcode Lui = 55
-upper_opcode Auipc = 23
+upper_opcode Lui = 0b0110111
+upper_opcode Auipc = 0b0010111
 
 -- the funct3 of a branch
 abbrev pub branch_funct3 : BranchOp → ℕ
@@ -48,13 +48,13 @@ store_funct3 Sd = 3
 
 -- the opcode of an operation with an immediate
 abbrev pub imm_opcode : ImmOp → ℕ
-imm_opcode Addi = 19
-imm_opcode Slti = 19
-imm_opcode Sltiu = 19
-imm_opcode Xori = 19
-imm_opcode Ori = 19
-imm_opcode Andi = 19
-imm_opcode Addiw = 27
+imm_opcode Addi = 0b0010011
+imm_opcode Slti = 0b0010011
+imm_opcode Sltiu = 0b0010011
+imm_opcode Xori = 0b0010011
+imm_opcode Ori = 0b0010011
+imm_opcode Andi = 0b0010011
+imm_opcode Addiw = 0b0011011
 
 -- the funct3 of an operation with an immediate
 abbrev pub imm_funct3 : ImmOp → ℕ
@@ -68,12 +68,12 @@ imm_funct3 Addiw = 0
 
 -- the opcode of a shift by a constant
 abbrev pub shift_opcode : ShiftOp → ℕ
-shift_opcode Slli = 19
-shift_opcode Srli = 19
-shift_opcode Srai = 19
-shift_opcode Slliw = 27
-shift_opcode Srliw = 27
-shift_opcode Sraiw = 27
+shift_opcode Slli = 0b0010011
+shift_opcode Srli = 0b0010011
+shift_opcode Srai = 0b0010011
+shift_opcode Slliw = 0b0011011
+shift_opcode Srliw = 0b0011011
+shift_opcode Sraiw = 0b0011011
 
 -- the funct3 of a shift by a constant
 abbrev pub shift_funct3 : ShiftOp → ℕ
@@ -86,12 +86,12 @@ shift_funct3 Sraiw = 5
 
 -- bits 31..26 of a shift by a constant
 abbrev pub shift_funct6 : ShiftOp → ℕ
-shift_funct6 Slli = 0
-shift_funct6 Srli = 0
-shift_funct6 Srai = 16
-shift_funct6 Slliw = 0
-shift_funct6 Srliw = 0
-shift_funct6 Sraiw = 16
+shift_funct6 Slli = 0b000000
+shift_funct6 Srli = 0b000000
+shift_funct6 Srai = 0b010000
+shift_funct6 Slliw = 0b000000
+shift_funct6 Srliw = 0b000000
+shift_funct6 Sraiw = 0b010000
 
 -- the amounts of a shift are the numbers below this bound
 abbrev pub amount_bound : ShiftOp → ℕ
@@ -104,21 +104,21 @@ amount_bound Sraiw = 32
 
 -- the opcode of an operation on two registers
 abbrev pub reg_opcode : RegOp → ℕ
-reg_opcode Add = 51
-reg_opcode Sub = 51
-reg_opcode Sll = 51
-reg_opcode Slt = 51
-reg_opcode Sltu = 51
-reg_opcode Xor = 51
-reg_opcode Srl = 51
-reg_opcode Sra = 51
-reg_opcode Or = 51
-reg_opcode And = 51
-reg_opcode Addw = 59
-reg_opcode Subw = 59
-reg_opcode Sllw = 59
-reg_opcode Srlw = 59
-reg_opcode Sraw = 59
+reg_opcode Add = 0b0110011
+reg_opcode Sub = 0b0110011
+reg_opcode Sll = 0b0110011
+reg_opcode Slt = 0b0110011
+reg_opcode Sltu = 0b0110011
+reg_opcode Xor = 0b0110011
+reg_opcode Srl = 0b0110011
+reg_opcode Sra = 0b0110011
+reg_opcode Or = 0b0110011
+reg_opcode And = 0b0110011
+reg_opcode Addw = 0b0111011
+reg_opcode Subw = 0b0111011
+reg_opcode Sllw = 0b0111011
+reg_opcode Srlw = 0b0111011
+reg_opcode Sraw = 0b0111011
 
 -- the funct3 of an operation on two registers
 abbrev pub reg_funct3 : RegOp → ℕ
@@ -140,18 +140,18 @@ reg_funct3 Sraw = 5
 
 -- bits 31..25 of an operation on two registers
 abbrev pub reg_funct7 : RegOp → ℕ
-reg_funct7 Add = 0
-reg_funct7 Sub = 32
-reg_funct7 Sll = 0
-reg_funct7 Slt = 0
-reg_funct7 Sltu = 0
-reg_funct7 Xor = 0
-reg_funct7 Srl = 0
-reg_funct7 Sra = 32
-reg_funct7 Or = 0
-reg_funct7 And = 0
-reg_funct7 Addw = 0
-reg_funct7 Subw = 32
-reg_funct7 Sllw = 0
-reg_funct7 Srlw = 0
-reg_funct7 Sraw = 32
+reg_funct7 Add = 0b0000000
+reg_funct7 Sub = 0b0100000
+reg_funct7 Sll = 0b0000000
+reg_funct7 Slt = 0b0000000
+reg_funct7 Sltu = 0b0000000
+reg_funct7 Xor = 0b0000000
+reg_funct7 Srl = 0b0000000
+reg_funct7 Sra = 0b0100000
+reg_funct7 Or = 0b0000000
+reg_funct7 And = 0b0000000
+reg_funct7 Addw = 0b0000000
+reg_funct7 Subw = 0b0100000
+reg_funct7 Sllw = 0b0000000
+reg_funct7 Srlw = 0b0000000
+reg_funct7 Sraw = 0b0100000

@@ -35,22 +35,22 @@ j_form opcode rd imm =
 
 abbrev pub word_of : Instr → ℕ
 word_of (Upper op rd imm) = upper_opcode op + rd * 128 + imm * 4096
-word_of (Jal rd offset) = j_form 111 rd (field_of 1048576 offset)
-word_of (Jalr rd rs1 imm) = i_form 103 rd 0 rs1 (field_of 2048 imm)
-word_of (Branch op rs1 rs2 offset) = b_form 99 (branch_funct3 op) rs1 rs2 (field_of 4096 offset)
-word_of (Load op rd rs1 imm) = i_form 3 rd (load_funct3 op) rs1 (field_of 2048 imm)
-word_of (Store op rs1 rs2 imm) = s_form 35 (store_funct3 op) rs1 rs2 (field_of 2048 imm)
+word_of (Jal rd offset) = j_form 0b1101111 rd (field_of 1048576 offset)
+word_of (Jalr rd rs1 imm) = i_form 0b1100111 rd 0 rs1 (field_of 2048 imm)
+word_of (Branch op rs1 rs2 offset) = b_form 0b1100011 (branch_funct3 op) rs1 rs2 (field_of 4096 offset)
+word_of (Load op rd rs1 imm) = i_form 0b0000011 rd (load_funct3 op) rs1 (field_of 2048 imm)
+word_of (Store op rs1 rs2 imm) = s_form 0b0100011 (store_funct3 op) rs1 rs2 (field_of 2048 imm)
 word_of (Imm op rd rs1 imm) = i_form (imm_opcode op) rd (imm_funct3 op) rs1 (field_of 2048 imm)
 word_of (Shift op rd rs1 amount) =
     i_form (shift_opcode op) rd (shift_funct3 op) rs1 (amount + shift_funct6 op * 64)
 word_of (Reg op rd rs1 rs2) =
     i_form (reg_opcode op) rd (reg_funct3 op) rs1 (rs2 + reg_funct7 op * 32)
-word_of (Fence rd rs1 bits) = i_form 15 rd 0 rs1 bits
-word_of Ecall = 115
-word_of Ebreak = 1048691
-word_of PersistBarrier = 11
-word_of NewStrand = 4107
-word_of JoinStrand = 8203
+word_of (Fence rd rs1 bits) = i_form 0b0001111 rd 0 rs1 bits
+word_of Ecall = 0x00000073
+word_of Ebreak = 0x00100073
+word_of PersistBarrier = 0x0000000b
+word_of NewStrand = 0x0000100b
+word_of JoinStrand = 0x0000200b
 
 -- every field is in its range
 abbrev pub IsValid : Instr → Type 0

@@ -10,8 +10,8 @@ pub(crate) fn upper_opcode(op: UpperOp) -> u32
     ensures small { result < 128 }
 {
     match op {
-        UpperOp::Lui => 55,
-        UpperOp::Auipc => 23,
+        UpperOp::Lui => 0b0110111,
+        UpperOp::Auipc => 0b0010111,
     }
 }
 
@@ -65,13 +65,13 @@ pub(crate) fn imm_opcode(op: ImmOp) -> u32
     ensures small { result < 128 }
 {
     match op {
-        ImmOp::Addi => 19,
-        ImmOp::Slti => 19,
-        ImmOp::Sltiu => 19,
-        ImmOp::Xori => 19,
-        ImmOp::Ori => 19,
-        ImmOp::Andi => 19,
-        ImmOp::Addiw => 27,
+        ImmOp::Addi => 0b0010011,
+        ImmOp::Slti => 0b0010011,
+        ImmOp::Sltiu => 0b0010011,
+        ImmOp::Xori => 0b0010011,
+        ImmOp::Ori => 0b0010011,
+        ImmOp::Andi => 0b0010011,
+        ImmOp::Addiw => 0b0011011,
     }
 }
 
@@ -97,12 +97,12 @@ pub(crate) fn shift_opcode(op: ShiftOp) -> u32
     ensures small { result < 128 }
 {
     match op {
-        ShiftOp::Slli => 19,
-        ShiftOp::Srli => 19,
-        ShiftOp::Srai => 19,
-        ShiftOp::Slliw => 27,
-        ShiftOp::Srliw => 27,
-        ShiftOp::Sraiw => 27,
+        ShiftOp::Slli => 0b0010011,
+        ShiftOp::Srli => 0b0010011,
+        ShiftOp::Srai => 0b0010011,
+        ShiftOp::Slliw => 0b0011011,
+        ShiftOp::Srliw => 0b0011011,
+        ShiftOp::Sraiw => 0b0011011,
     }
 }
 
@@ -127,12 +127,12 @@ pub(crate) fn shift_funct6(op: ShiftOp) -> u32
     ensures small { result < 64 }
 {
     match op {
-        ShiftOp::Slli => 0,
-        ShiftOp::Srli => 0,
-        ShiftOp::Srai => 16,
-        ShiftOp::Slliw => 0,
-        ShiftOp::Srliw => 0,
-        ShiftOp::Sraiw => 16,
+        ShiftOp::Slli => 0b000000,
+        ShiftOp::Srli => 0b000000,
+        ShiftOp::Srai => 0b010000,
+        ShiftOp::Slliw => 0b000000,
+        ShiftOp::Srliw => 0b000000,
+        ShiftOp::Sraiw => 0b010000,
     }
 }
 
@@ -142,21 +142,21 @@ pub(crate) fn reg_opcode(op: RegOp) -> u32
     ensures small { result < 128 }
 {
     match op {
-        RegOp::Add => 51,
-        RegOp::Sub => 51,
-        RegOp::Sll => 51,
-        RegOp::Slt => 51,
-        RegOp::Sltu => 51,
-        RegOp::Xor => 51,
-        RegOp::Srl => 51,
-        RegOp::Sra => 51,
-        RegOp::Or => 51,
-        RegOp::And => 51,
-        RegOp::Addw => 59,
-        RegOp::Subw => 59,
-        RegOp::Sllw => 59,
-        RegOp::Srlw => 59,
-        RegOp::Sraw => 59,
+        RegOp::Add => 0b0110011,
+        RegOp::Sub => 0b0110011,
+        RegOp::Sll => 0b0110011,
+        RegOp::Slt => 0b0110011,
+        RegOp::Sltu => 0b0110011,
+        RegOp::Xor => 0b0110011,
+        RegOp::Srl => 0b0110011,
+        RegOp::Sra => 0b0110011,
+        RegOp::Or => 0b0110011,
+        RegOp::And => 0b0110011,
+        RegOp::Addw => 0b0111011,
+        RegOp::Subw => 0b0111011,
+        RegOp::Sllw => 0b0111011,
+        RegOp::Srlw => 0b0111011,
+        RegOp::Sraw => 0b0111011,
     }
 }
 
@@ -190,21 +190,21 @@ pub(crate) fn reg_funct7(op: RegOp) -> u32
     ensures small { result < 128 }
 {
     match op {
-        RegOp::Add => 0,
-        RegOp::Sub => 32,
-        RegOp::Sll => 0,
-        RegOp::Slt => 0,
-        RegOp::Sltu => 0,
-        RegOp::Xor => 0,
-        RegOp::Srl => 0,
-        RegOp::Sra => 32,
-        RegOp::Or => 0,
-        RegOp::And => 0,
-        RegOp::Addw => 0,
-        RegOp::Subw => 32,
-        RegOp::Sllw => 0,
-        RegOp::Srlw => 0,
-        RegOp::Sraw => 32,
+        RegOp::Add => 0b0000000,
+        RegOp::Sub => 0b0100000,
+        RegOp::Sll => 0b0000000,
+        RegOp::Slt => 0b0000000,
+        RegOp::Sltu => 0b0000000,
+        RegOp::Xor => 0b0000000,
+        RegOp::Srl => 0b0000000,
+        RegOp::Sra => 0b0100000,
+        RegOp::Or => 0b0000000,
+        RegOp::And => 0b0000000,
+        RegOp::Addw => 0b0000000,
+        RegOp::Subw => 0b0100000,
+        RegOp::Sllw => 0b0000000,
+        RegOp::Srlw => 0b0000000,
+        RegOp::Sraw => 0b0100000,
     }
 }
 

@@ -1,4 +1,5 @@
-ghost use Rattle.std.specs.Prelude.{◌≡◌, ℕ, ◌+◌, ◌*◌, ◌/◌, ◌%◌, ◌<◌, ◌⊎◌, IfSome, Some, ℤ};
+ghost use Rattle.std.specs.Prelude.{◌≡◌, ℕ, ◌+◌, ◌*◌, ◌/◌, ◌%◌, ◌<◌, ◌⊎◌, IfSome, None, Some, ℤ, if◌then◌else◌, ◌||◌, nat_eq};
+ghost use Rattle.strand_isa.specs.Decode.{branch_at, branch_op, fence_at, funct3, imm_at, imm_op, instr_of, j_immediate, jalr_at, load_at, load_op, rd_of, reg_at, reg_op, shift_at, shift_op, signed_of, store_at, store_op};
 ghost use Rattle.strand_isa.specs.Word.{IsValid, IsWithin, field_of, word_of};
 ghost use Rattle.strand_isa.specs.Codes.{amount_bound, branch_funct3, imm_funct3, imm_opcode, load_funct3, reg_funct3, reg_funct7, reg_opcode, shift_funct3, shift_funct6, shift_opcode, store_funct3};
 ghost use Rattle.strand_isa.specs.declared.instr.Instr.{Instr};
@@ -14,7 +15,9 @@ ghost use Rattle.strand_isa.specs.declared.instr.RegOp.{RegOp};
 use crate::codes::amount_bound;
 use crate::instr::{BranchOp, ImmOp, Instr, LoadOp, RegOp, ShiftOp, StoreOp, UpperOp};
 
+#[tactic(auto, unfolding(crate::specs::Decode::branch_op))]
 fn branch_op(funct3: u32) -> Option<BranchOp>
+    ensures value { result ≡ branch_op funct3 }
     ensures found { IfSome result (λ op. branch_funct3 op ≡ funct3) }
     ensures every { (op : BranchOp) → branch_funct3 op ≡ funct3 → result ≡ Some op }
 {
@@ -29,7 +32,9 @@ fn branch_op(funct3: u32) -> Option<BranchOp>
     }
 }
 
+#[tactic(auto, unfolding(crate::specs::Decode::load_op))]
 fn load_op(funct3: u32) -> Option<LoadOp>
+    ensures value { result ≡ load_op funct3 }
     ensures found { IfSome result (λ op. load_funct3 op ≡ funct3) }
     ensures every { (op : LoadOp) → load_funct3 op ≡ funct3 → result ≡ Some op }
 {
@@ -45,7 +50,9 @@ fn load_op(funct3: u32) -> Option<LoadOp>
     }
 }
 
+#[tactic(auto, unfolding(crate::specs::Decode::store_op))]
 fn store_op(funct3: u32) -> Option<StoreOp>
+    ensures value { result ≡ store_op funct3 }
     ensures found { IfSome result (λ op. store_funct3 op ≡ funct3) }
     ensures every { (op : StoreOp) → store_funct3 op ≡ funct3 → result ≡ Some op }
 {
@@ -58,57 +65,63 @@ fn store_op(funct3: u32) -> Option<StoreOp>
     }
 }
 
+#[tactic(auto, unfolding(crate::specs::Decode::imm_op))]
 fn imm_op(opcode: u32, funct3: u32) -> Option<ImmOp>
+    ensures value { result ≡ imm_op opcode funct3 }
     ensures found { IfSome result (λ op. (imm_opcode op ≡ opcode) × (imm_funct3 op ≡ funct3)) }
     ensures every { (op : ImmOp) → imm_opcode op ≡ opcode → imm_funct3 op ≡ funct3 → result ≡ Some op }
 {
     match (opcode, funct3) {
-        (19, 0) => Some(ImmOp::Addi),
-        (19, 2) => Some(ImmOp::Slti),
-        (19, 3) => Some(ImmOp::Sltiu),
-        (19, 4) => Some(ImmOp::Xori),
-        (19, 6) => Some(ImmOp::Ori),
-        (19, 7) => Some(ImmOp::Andi),
-        (27, 0) => Some(ImmOp::Addiw),
+        (0b0010011, 0) => Some(ImmOp::Addi),
+        (0b0010011, 2) => Some(ImmOp::Slti),
+        (0b0010011, 3) => Some(ImmOp::Sltiu),
+        (0b0010011, 4) => Some(ImmOp::Xori),
+        (0b0010011, 6) => Some(ImmOp::Ori),
+        (0b0010011, 7) => Some(ImmOp::Andi),
+        (0b0011011, 0) => Some(ImmOp::Addiw),
         _ => None,
     }
 }
 
+#[tactic(auto, unfolding(crate::specs::Decode::shift_op))]
 fn shift_op(opcode: u32, funct3: u32, top: u32) -> Option<ShiftOp>
+    ensures value { result ≡ shift_op opcode funct3 top }
     ensures found { IfSome result (λ op. (shift_opcode op ≡ opcode) × (shift_funct3 op ≡ funct3) × (shift_funct6 op ≡ top)) }
     ensures every { (op : ShiftOp) → shift_opcode op ≡ opcode → shift_funct3 op ≡ funct3 → shift_funct6 op ≡ top → result ≡ Some op }
 {
     match (opcode, funct3, top) {
-        (19, 1, 0) => Some(ShiftOp::Slli),
-        (19, 5, 0) => Some(ShiftOp::Srli),
-        (19, 5, 16) => Some(ShiftOp::Srai),
-        (27, 1, 0) => Some(ShiftOp::Slliw),
-        (27, 5, 0) => Some(ShiftOp::Srliw),
-        (27, 5, 16) => Some(ShiftOp::Sraiw),
+        (0b0010011, 1, 0b000000) => Some(ShiftOp::Slli),
+        (0b0010011, 5, 0b000000) => Some(ShiftOp::Srli),
+        (0b0010011, 5, 0b010000) => Some(ShiftOp::Srai),
+        (0b0011011, 1, 0b000000) => Some(ShiftOp::Slliw),
+        (0b0011011, 5, 0b000000) => Some(ShiftOp::Srliw),
+        (0b0011011, 5, 0b010000) => Some(ShiftOp::Sraiw),
         _ => None,
     }
 }
 
+#[tactic(auto, unfolding(crate::specs::Decode::reg_op))]
 fn reg_op(opcode: u32, funct3: u32, top: u32) -> Option<RegOp>
+    ensures value { result ≡ reg_op opcode funct3 top }
     ensures found { IfSome result (λ op. (reg_opcode op ≡ opcode) × (reg_funct3 op ≡ funct3) × (reg_funct7 op ≡ top)) }
     ensures every { (op : RegOp) → reg_opcode op ≡ opcode → reg_funct3 op ≡ funct3 → reg_funct7 op ≡ top → result ≡ Some op }
 {
     match (opcode, funct3, top) {
-        (51, 0, 0) => Some(RegOp::Add),
-        (51, 0, 32) => Some(RegOp::Sub),
-        (51, 1, 0) => Some(RegOp::Sll),
-        (51, 2, 0) => Some(RegOp::Slt),
-        (51, 3, 0) => Some(RegOp::Sltu),
-        (51, 4, 0) => Some(RegOp::Xor),
-        (51, 5, 0) => Some(RegOp::Srl),
-        (51, 5, 32) => Some(RegOp::Sra),
-        (51, 6, 0) => Some(RegOp::Or),
-        (51, 7, 0) => Some(RegOp::And),
-        (59, 0, 0) => Some(RegOp::Addw),
-        (59, 0, 32) => Some(RegOp::Subw),
-        (59, 1, 0) => Some(RegOp::Sllw),
-        (59, 5, 0) => Some(RegOp::Srlw),
-        (59, 5, 32) => Some(RegOp::Sraw),
+        (0b0110011, 0, 0b0000000) => Some(RegOp::Add),
+        (0b0110011, 0, 0b0100000) => Some(RegOp::Sub),
+        (0b0110011, 1, 0b0000000) => Some(RegOp::Sll),
+        (0b0110011, 2, 0b0000000) => Some(RegOp::Slt),
+        (0b0110011, 3, 0b0000000) => Some(RegOp::Sltu),
+        (0b0110011, 4, 0b0000000) => Some(RegOp::Xor),
+        (0b0110011, 5, 0b0000000) => Some(RegOp::Srl),
+        (0b0110011, 5, 0b0100000) => Some(RegOp::Sra),
+        (0b0110011, 6, 0b0000000) => Some(RegOp::Or),
+        (0b0110011, 7, 0b0000000) => Some(RegOp::And),
+        (0b0111011, 0, 0b0000000) => Some(RegOp::Addw),
+        (0b0111011, 0, 0b0100000) => Some(RegOp::Subw),
+        (0b0111011, 1, 0b0000000) => Some(RegOp::Sllw),
+        (0b0111011, 5, 0b0000000) => Some(RegOp::Srlw),
+        (0b0111011, 5, 0b0100000) => Some(RegOp::Sraw),
         _ => None,
     }
 }
@@ -117,6 +130,7 @@ fn reg_op(opcode: u32, funct3: u32, top: u32) -> Option<RegOp>
 fn signed(half: u32, field: u32) -> i32
     requires half { half < 2000000 }
     requires small { field < 2 * half }
+    ensures value { result ≡ signed_of half field }
     ensures within { IsWithin half result }
     ensures field { field_of half result ≡ field }
     ensures only { (z : ℤ) → IsWithin half z → field_of half z ≡ field → result ≡ z }
@@ -137,7 +151,8 @@ fn register(word: u32, place: u32) -> u8
 }
 
 fn decode_jal(word: u32) -> Option<Instr>
-    requires { word % 128 ≡ 111 }
+    requires { word % 128 ≡ 0b1101111 }
+    ensures value { result ≡ Some (Jal (rd_of word) (j_immediate word)) }
     ensures valid { IfSome result IsValid }
     ensures word { IfSome result (λ i. word_of i ≡ word) }
     ensures every { (rd : ℕ) (offset : ℤ) → IsValid (Jal rd offset) → word_of (Jal rd offset) ≡ word → result ≡ Some (Jal rd offset) }
@@ -151,8 +166,10 @@ fn decode_jal(word: u32) -> Option<Instr>
     Some(Instr::Jal { rd, offset })
 }
 
+#[tactic(auto, unfolding(crate::specs::Decode::jalr_at))]
 fn decode_jalr(word: u32) -> Option<Instr>
-    requires { word % 128 ≡ 103 }
+    requires { word % 128 ≡ 0b1100111 }
+    ensures value { result ≡ jalr_at word }
     ensures valid { IfSome result IsValid }
     ensures word { IfSome result (λ i. word_of i ≡ word) }
     ensures every { (rd rs1 : ℕ) (imm : ℤ) → IsValid (Jalr rd rs1 imm) → word_of (Jalr rd rs1 imm) ≡ word → result ≡ Some (Jalr rd rs1 imm) }
@@ -166,8 +183,10 @@ fn decode_jalr(word: u32) -> Option<Instr>
     Some(Instr::Jalr { rd, rs1, imm })
 }
 
+#[tactic(auto, unfolding(crate::specs::Decode::branch_at))]
 fn decode_branch(word: u32) -> Option<Instr>
-    requires { word % 128 ≡ 99 }
+    requires { word % 128 ≡ 0b1100011 }
+    ensures value { result ≡ branch_at word }
     ensures valid { IfSome result IsValid }
     ensures word { IfSome result (λ i. word_of i ≡ word) }
     ensures every { (op : BranchOp) (rs1 rs2 : ℕ) (offset : ℤ) → IsValid (Branch op rs1 rs2 offset) → word_of (Branch op rs1 rs2 offset) ≡ word → result ≡ Some (Branch op rs1 rs2 offset) }
@@ -188,8 +207,10 @@ fn decode_branch(word: u32) -> Option<Instr>
     })
 }
 
+#[tactic(auto, unfolding(crate::specs::Decode::load_at))]
 fn decode_load(word: u32) -> Option<Instr>
-    requires { word % 128 ≡ 3 }
+    requires { word % 128 ≡ 0b0000011 }
+    ensures value { result ≡ load_at word }
     ensures valid { IfSome result IsValid }
     ensures word { IfSome result (λ i. word_of i ≡ word) }
     ensures every { (op : LoadOp) (rd rs1 : ℕ) (imm : ℤ) → IsValid (Load op rd rs1 imm) → word_of (Load op rd rs1 imm) ≡ word → result ≡ Some (Load op rd rs1 imm) }
@@ -201,8 +222,10 @@ fn decode_load(word: u32) -> Option<Instr>
     Some(Instr::Load { op, rd, rs1, imm })
 }
 
+#[tactic(auto, unfolding(crate::specs::Decode::store_at))]
 fn decode_store(word: u32) -> Option<Instr>
-    requires { word % 128 ≡ 35 }
+    requires { word % 128 ≡ 0b0100011 }
+    ensures value { result ≡ store_at word }
     ensures valid { IfSome result IsValid }
     ensures word { IfSome result (λ i. word_of i ≡ word) }
     ensures every { (op : StoreOp) (rs1 rs2 : ℕ) (imm : ℤ) → IsValid (Store op rs1 rs2 imm) → word_of (Store op rs1 rs2 imm) ≡ word → result ≡ Some (Store op rs1 rs2 imm) }
@@ -214,8 +237,10 @@ fn decode_store(word: u32) -> Option<Instr>
     Some(Instr::Store { op, rs1, rs2, imm })
 }
 
+#[tactic(auto, unfolding(crate::specs::Decode::imm_at))]
 fn decode_imm(word: u32) -> Option<Instr>
-    requires { (word % 128 ≡ 19) ⊎ (word % 128 ≡ 27) }
+    requires { (word % 128 ≡ 0b0010011) ⊎ (word % 128 ≡ 0b0011011) }
+    ensures value { result ≡ imm_at word }
     ensures valid { IfSome result IsValid }
     ensures word { IfSome result (λ i. word_of i ≡ word) }
     ensures every { (op : ImmOp) (rd rs1 : ℕ) (imm : ℤ) → IsValid (Imm op rd rs1 imm) → word_of (Imm op rd rs1 imm) ≡ word → result ≡ Some (Imm op rd rs1 imm) }
@@ -227,8 +252,10 @@ fn decode_imm(word: u32) -> Option<Instr>
     Some(Instr::Imm { op, rd, rs1, imm })
 }
 
+#[tactic(auto, unfolding(crate::specs::Decode::shift_at))]
 fn decode_shift(word: u32) -> Option<Instr>
-    requires { (word % 128 ≡ 19) ⊎ (word % 128 ≡ 27) }
+    requires { (word % 128 ≡ 0b0010011) ⊎ (word % 128 ≡ 0b0011011) }
+    ensures value { result ≡ shift_at word }
     ensures valid { IfSome result IsValid }
     ensures word { IfSome result (λ i. word_of i ≡ word) }
     ensures every { (op : ShiftOp) (rd rs1 amount : ℕ) → IsValid (Shift op rd rs1 amount) → word_of (Shift op rd rs1 amount) ≡ word → result ≡ Some (Shift op rd rs1 amount) }
@@ -248,8 +275,10 @@ fn decode_shift(word: u32) -> Option<Instr>
     })
 }
 
+#[tactic(auto, unfolding(crate::specs::Decode::reg_at))]
 fn decode_reg(word: u32) -> Option<Instr>
-    requires { (word % 128 ≡ 51) ⊎ (word % 128 ≡ 59) }
+    requires { (word % 128 ≡ 0b0110011) ⊎ (word % 128 ≡ 0b0111011) }
+    ensures value { result ≡ reg_at word }
     ensures valid { IfSome result IsValid }
     ensures word { IfSome result (λ i. word_of i ≡ word) }
     ensures every { (op : RegOp) (rd rs1 rs2 : ℕ) → IsValid (Reg op rd rs1 rs2) → word_of (Reg op rd rs1 rs2) ≡ word → result ≡ Some (Reg op rd rs1 rs2) }
@@ -261,8 +290,10 @@ fn decode_reg(word: u32) -> Option<Instr>
     Some(Instr::Reg { op, rd, rs1, rs2 })
 }
 
+#[tactic(auto, unfolding(crate::specs::Decode::fence_at))]
 fn decode_fence(word: u32) -> Option<Instr>
-    requires { word % 128 ≡ 15 }
+    requires { word % 128 ≡ 0b0001111 }
+    ensures value { result ≡ fence_at word }
     ensures valid { IfSome result IsValid }
     ensures word { IfSome result (λ i. word_of i ≡ word) }
     ensures every { (rd rs1 bits : ℕ) → IsValid (Fence rd rs1 bits) → word_of (Fence rd rs1 bits) ≡ word → result ≡ Some (Fence rd rs1 bits) }
@@ -278,7 +309,8 @@ fn decode_fence(word: u32) -> Option<Instr>
 
 /// An operation with an immediate, or a shift by a constant.
 fn decode_immediate(word: u32) -> Option<Instr>
-    requires { (word % 128 ≡ 19) ⊎ (word % 128 ≡ 27) }
+    requires { (word % 128 ≡ 0b0010011) ⊎ (word % 128 ≡ 0b0011011) }
+    ensures value { result ≡ (if nat_eq (funct3 word) 1 || nat_eq (funct3 word) 5 then shift_at word else imm_at word) }
     ensures valid { IfSome result IsValid }
     ensures word { IfSome result (λ i. word_of i ≡ word) }
     ensures every_imm { (op : ImmOp) (rd rs1 : ℕ) (imm : ℤ) → IsValid (Imm op rd rs1 imm) → word_of (Imm op rd rs1 imm) ≡ word → result ≡ Some (Imm op rd rs1 imm) }
@@ -305,31 +337,33 @@ fn upper(op: UpperOp, word: u32) -> Instr
 }
 
 /// The instruction that a word stands for, or `None` exactly where no instruction has the word.
+#[tactic(auto, unfolding(crate::specs::Decode::instr_of))]
 pub fn decode(word: u32) -> Option<Instr>
+    ensures value { result ≡ instr_of word }
     ensures valid { IfSome result IsValid }
     ensures word { IfSome result (λ i. word_of i ≡ word) }
     ensures every { (i : Instr) → IsValid i → word_of i ≡ word → result ≡ Some i }
 {
     match word % 128 {
-        55 => Some(upper(UpperOp::Lui, word)),
-        23 => Some(upper(UpperOp::Auipc, word)),
-        111 => decode_jal(word),
-        103 => decode_jalr(word),
-        99 => decode_branch(word),
-        3 => decode_load(word),
-        35 => decode_store(word),
-        19 | 27 => decode_immediate(word),
-        51 | 59 => decode_reg(word),
-        15 => decode_fence(word),
-        115 => match word {
-            115 => Some(Instr::Ecall),
-            1048691 => Some(Instr::Ebreak),
+        0b0110111 => Some(upper(UpperOp::Lui, word)),
+        0b0010111 => Some(upper(UpperOp::Auipc, word)),
+        0b1101111 => decode_jal(word),
+        0b1100111 => decode_jalr(word),
+        0b1100011 => decode_branch(word),
+        0b0000011 => decode_load(word),
+        0b0100011 => decode_store(word),
+        0b0010011 | 0b0011011 => decode_immediate(word),
+        0b0110011 | 0b0111011 => decode_reg(word),
+        0b0001111 => decode_fence(word),
+        0b1110011 => match word {
+            0x00000073 => Some(Instr::Ecall),
+            0x00100073 => Some(Instr::Ebreak),
             _ => None,
         },
-        11 => match word {
-            11 => Some(Instr::PersistBarrier),
-            4107 => Some(Instr::NewStrand),
-            8203 => Some(Instr::JoinStrand),
+        0b0001011 => match word {
+            0x0000000b => Some(Instr::PersistBarrier),
+            0x0000100b => Some(Instr::NewStrand),
+            0x0000200b => Some(Instr::JoinStrand),
             _ => None,
         },
         _ => None,

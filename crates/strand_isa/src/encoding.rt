@@ -91,17 +91,23 @@ pub fn encode(i: &Instr) -> u32
 {
     match *i {
         Instr::Upper { op, rd, imm } => upper_opcode(op) + u32::from(rd) * 128 + imm * 4096,
-        Instr::Jal { rd, offset } => j_form(111, rd, field(1048576, offset)),
-        Instr::Jalr { rd, rs1, imm } => i_form(103, rd, 0, rs1, field(2048, imm)),
+        Instr::Jal { rd, offset } => j_form(0b1101111, rd, field(1048576, offset)),
+        Instr::Jalr { rd, rs1, imm } => i_form(0b1100111, rd, 0, rs1, field(2048, imm)),
         Instr::Branch {
             op,
             rs1,
             rs2,
             offset,
-        } => { b_form(99, branch_funct3(op), rs1, rs2, field(4096, offset)) }
-        Instr::Load { op, rd, rs1, imm } => i_form(3, rd, load_funct3(op), rs1, field(2048, imm)),
+        } => { b_form(0b1100011, branch_funct3(op), rs1, rs2, field(4096, offset)) }
+        Instr::Load { op, rd, rs1, imm } => i_form(
+            0b0000011,
+            rd,
+            load_funct3(op),
+            rs1,
+            field(2048, imm),
+        ),
         Instr::Store { op, rs1, rs2, imm } => {
-            s_form(35, store_funct3(op), rs1, rs2, field(2048, imm))
+            s_form(0b0100011, store_funct3(op), rs1, rs2, field(2048, imm))
         }
         Instr::Imm { op, rd, rs1, imm } => {
             i_form(imm_opcode(op), rd, imm_funct3(op), rs1, field(2048, imm))
@@ -129,11 +135,11 @@ pub fn encode(i: &Instr) -> u32
                 u32::from(rs2) + reg_funct7(op) * 32,
             )
         }
-        Instr::Fence { rd, rs1, bits } => i_form(15, rd, 0, rs1, u32::from(bits)),
-        Instr::Ecall => 115,
-        Instr::Ebreak => 1048691,
-        Instr::PersistBarrier => 11,
-        Instr::NewStrand => 4107,
-        Instr::JoinStrand => 8203,
+        Instr::Fence { rd, rs1, bits } => i_form(0b0001111, rd, 0, rs1, u32::from(bits)),
+        Instr::Ecall => 0x00000073,
+        Instr::Ebreak => 0x00100073,
+        Instr::PersistBarrier => 0x0000000b,
+        Instr::NewStrand => 0x0000100b,
+        Instr::JoinStrand => 0x0000200b,
     }
 }
