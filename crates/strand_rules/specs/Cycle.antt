@@ -8,10 +8,10 @@ use Rattle.strand_inputs.specs.declared.step.Step.TheVariants.{Core, Dispatch, S
 use Rattle.strand_exec.specs.Core as cores
 use Rattle.strand_exec.specs.Memory.{Memory}
 use Rattle.strand_exec.specs.Plan.{plan_of}
-use Rattle.strand_exec.specs.declared.plan.Plan.{Plan}
-use Rattle.strand_exec.specs.declared.plan.Plan.TheVariants as plans
-use Rattle.strand_exec.specs.declared.core_state.Life.{Life}
-use Rattle.strand_exec.specs.declared.core_state.Life.TheVariants.{Running, Halted, Trapped}
+use Rattle.strand_exec.specs.declared.planned.Plan.{Plan}
+use Rattle.strand_exec.specs.declared.planned.Plan.TheVariants as plans
+use Rattle.strand_exec.specs.declared.life.Life.{Life}
+use Rattle.strand_exec.specs.declared.life.Life.TheVariants.{Running, Halted, Trapped}
 use Rattle.strand_events.specs.declared.event.Event.{Event}
 use Rattle.strand_events.specs.Trace.{is_persist, event_is, word_at, value_at, persists_of}
 use Rattle.strand_events.specs.Order.{Set, image}

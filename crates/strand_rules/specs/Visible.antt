@@ -1,14 +1,14 @@
 -- The visible run: the instruction table, applied to cores in turn over one flat memory.
 use Rattle.std.specs.Prelude.{ℕ, ◌-◌, ◌^◌, List, [], ◌∷◌, ◌++◌, slice_get, slice_set, bit_and, bit_or, Some, None}
 use Rattle.std.specs.declared.option.Option.{Option}
-use Rattle.strand_exec.specs.Core.{Core}
+use Rattle.strand_exec.specs.Core.{Core, Extents}
 use Rattle.strand_exec.specs.Memory.{Memory, word_in, with_word}
 use Rattle.strand_exec.specs.Plan.{plan_of, finished}
-use Rattle.strand_exec.specs.declared.sizes.Sizes.{Sizes}
-use Rattle.strand_exec.specs.declared.plan.Plan.{Plan}
-use Rattle.strand_exec.specs.declared.plan.Plan.TheVariants as plans
-use Rattle.strand_exec.specs.declared.core_state.Life.{Life}
-use Rattle.strand_exec.specs.declared.core_state.Life.TheVariants.{Running, Halted, Trapped}
+
+use Rattle.strand_exec.specs.declared.planned.Plan.{Plan}
+use Rattle.strand_exec.specs.declared.planned.Plan.TheVariants as plans
+use Rattle.strand_exec.specs.declared.life.Life.{Life}
+use Rattle.strand_exec.specs.declared.life.Life.TheVariants.{Running, Halted, Trapped}
 use Rattle.strand_events.specs.declared.event.Event.{Event}
 use Rattle.strand_events.specs.declared.event.Event.TheVariants.{Load, Store, Barrier, NewStrand, Join, Out}
 use Rattle.strand_events.specs.Fits.{is_persistent}
@@ -16,7 +16,7 @@ use Rattle.strand_events.specs.Fits.{is_persistent}
 -- the code words, and how many words the two data regions have
 pub record Program : Type 0 where
   pub code : List ℕ
-  pub sizes : Sizes
+  pub sizes : Extents
 
 -- what the programs see: the cores, one flat memory, and the events so far
 pub record Visible : Type 0 where
