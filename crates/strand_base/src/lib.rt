@@ -3,6 +3,7 @@
 #![tactic(auto)]
 
 mod decimal;
+mod digits;
 mod fault_plan;
 mod files;
 mod held_files;
@@ -25,7 +26,7 @@ mod writing;
 pub use decimal::{NumberFault, print_decimal, read_decimal};
 pub use fault_plan::FaultPlan;
 pub use files::{FetchFault, Files};
-pub use hexadecimal::{hex_digits, print_hex16};
+pub use hexadecimal::{hex_digits, print_hex16, read_hex};
 pub use host_files::HostFiles;
 pub use host_sink::HostSink;
 pub use lines::{LineSpan, content, next_line, next_word};
