@@ -14,3 +14,6 @@ pub use fault_lines::{
     write_words_fault,
 };
 pub use run::{RunView, write_run};
+
+#[cfg(test)]
+mod tests;

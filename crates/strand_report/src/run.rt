@@ -11,6 +11,7 @@ use strand_base::{OutOfMemory, put_line};
 
 /// What a run's report is made of: the steps that were made, the cores, the words that the modules
 /// hold, and where a module refused a store, that.
+#[derive(Clone, Copy)]
 pub struct RunView<'a> {
     pub stop: u64,
     pub cores: &'a [CoreState],
