@@ -1,6 +1,6 @@
 -- A core as contracts see it.
 use Rattle.std.specs.Prelude.{ℕ, List}
-use Rattle.strand_report.specs.declared.core_state.Life.{Life}
+use Rattle.strand_report.specs.declared.life.Life.{Life}
 
 pub record Core : Type 0 where
   pub pc : ℕ

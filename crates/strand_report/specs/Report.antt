@@ -6,10 +6,10 @@ use Rattle.std.specs.Fmt.{decimal}
 use lib.Chars.{codes}
 use Rattle.strand_base.specs.Text.{line_text}
 use Rattle.strand_base.specs.Hexadecimal.{hex16}
-use Rattle.strand_report.specs.declared.core_state.Life.{Life}
-use Rattle.strand_report.specs.declared.core_state.Life.TheVariants.{Running, Halted, Trapped}
-use Rattle.strand_report.specs.declared.core_state.Trap.{Trap}
-use Rattle.strand_report.specs.declared.core_state.Trap.TheVariants.{Fetch, Target, Illegal, Misaligned, Access, Call}
+use Rattle.strand_report.specs.declared.life.Life.{Life}
+use Rattle.strand_report.specs.declared.life.Life.TheVariants.{Running, Halted, Trapped}
+use Rattle.strand_report.specs.declared.life.Trap.{Trap}
+use Rattle.strand_report.specs.declared.life.Trap.TheVariants.{Fetch, Target, Illegal, Misaligned, Access, Call}
 use Rattle.strand_report.specs.declared.fault_lines.StepFault.{StepFault}
 use Rattle.strand_report.specs.Core.{Core}
 use Rattle.strand_report.specs.FaultLines.{step_fault}
@@ -44,9 +44,13 @@ reg_line n r w = if w == 0 then [] else line_text (codes "reg" ∷ decimal n ∷
 abbrev pub core_lines : ℕ → Core → List ℕ
 core_lines n core = core_line n core ++ numbered (reg_line n) core.regs
 
--- "pm H H", address and value, for a held word that is not 0
-abbrev pub held_line : ℕ → ℕ → List ℕ
-held_line place w = if w == 0 then [] else line_text (codes "pm" ∷ hex16 (0x40000000 + 8 * place) ∷ hex16 w ∷ [])
+-- "NAME H H", address and value, for a word that is not 0, where the first word is at base
+abbrev pub word_line : List ℕ → ℕ → ℕ → ℕ → List ℕ
+word_line name base place w = if w == 0 then [] else line_text (name ∷ hex16 (base + 8 * place) ∷ hex16 w ∷ [])
+
+-- the words that the modules hold
+abbrev pub held_lines : List ℕ → List ℕ
+held_lines held = numbered (word_line (codes "pm") 0x40000000) held
 
 -- where a module refused a store, that as the last line
 abbrev pub fault_lines : Option StepFault → List ℕ
@@ -58,5 +62,5 @@ abbrev pub run_text : ℕ → List Core → List ℕ → Option StepFault → Li
 run_text stop cores held fault =
     stop_line stop
     ++ (numbered core_lines cores
-    ++ (numbered held_line held
+    ++ (held_lines held
     ++ fault_lines fault))

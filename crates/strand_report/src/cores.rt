@@ -5,7 +5,8 @@ ghost use Rattle.strand_base.specs.Text.{line_text};
 ghost use Rattle.strand_report.specs.Numbered.{numbered};
 ghost use Rattle.strand_report.specs.Report.{core_line, core_lines, reg_line, trap_words};
 
-use crate::core_state::{CoreState, Life, Trap};
+use crate::core_state::CoreState;
+use crate::life::{Life, Trap};
 use itoa::Buffer;
 use strand_base::{OutOfMemory, hex_digits, put_line};
 

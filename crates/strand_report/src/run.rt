@@ -5,7 +5,7 @@ ghost use Rattle.strand_report.specs.Report.{stop_line, fault_lines, run_text};
 use crate::core_state::CoreState;
 use crate::cores::put_cores;
 use crate::fault_lines::{StepFault, put_step_fault};
-use crate::held::put_held;
+use crate::words::put_words;
 use itoa::Buffer;
 use strand_base::{OutOfMemory, put_line};
 
@@ -43,6 +43,6 @@ pub fn write_run(view: &RunView<'_>, into: &mut Vec<u8>) -> Result<(), OutOfMemo
 {
     put_stop(into, view.stop)?;
     put_cores(into, view.cores)?;
-    put_held(into, view.held)?;
+    put_words(into, "pm", 0x4000_0000, view.held)?;
     put_fault(into, view.fault)
 }
