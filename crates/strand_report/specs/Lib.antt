@@ -1,0 +1,4 @@
+pub mod Core
+pub mod FaultLines
+pub mod Numbered
+pub mod Report

@@ -1,0 +1,48 @@
+ghost use Rattle.std.specs.Prelude.{◌≡◌, ◌≤◌, length};
+ghost use Rattle.strand_base.specs.Puts.{Puts};
+ghost use Rattle.strand_report.specs.Report.{stop_line, fault_lines, run_text};
+
+use crate::core_state::CoreState;
+use crate::cores::put_cores;
+use crate::fault_lines::{StepFault, put_step_fault};
+use crate::words::put_words;
+use itoa::Buffer;
+use strand_base::{OutOfMemory, put_line};
+
+/// What a run's report is made of: the steps that were made, the cores, the words that the modules
+/// hold, and where a module refused a store, that.
+#[derive(Clone, Copy)]
+pub struct RunView<'a> {
+    pub stop: u64,
+    pub cores: &'a [CoreState],
+    pub held: &'a [u64],
+    pub fault: Option<StepFault>,
+}
+
+fn put_stop(into: &mut Vec<u8>, stop: u64) -> Result<(), OutOfMemory>
+    ensures { Puts result (stop_line stop) into.old.items into.new.items }
+{
+    let mut number = Buffer::new();
+    put_line(into, b"stop", &[number.format(stop).as_bytes()])
+}
+
+fn put_fault(into: &mut Vec<u8>, fault: Option<StepFault>) -> Result<(), OutOfMemory>
+    ensures { Puts result (fault_lines fault) into.old.items into.new.items }
+{
+    match fault {
+        Some(fault) => put_step_fault(into, fault),
+        None => Ok(()),
+    }
+}
+
+/// Appends the report of a run (docs/report.md). Where memory ran out, a front of it is appended.
+pub fn write_run(view: &RunView<'_>, into: &mut Vec<u8>) -> Result<(), OutOfMemory>
+    requires cores { length view.now.cores.now ≤ 8 }
+    requires held { length view.now.held.now ≤ 1048576 }
+    ensures { Puts result (run_text view.now.stop view.now.cores.now view.now.held.now view.now.fault) into.old.items into.new.items }
+{
+    put_stop(into, view.stop)?;
+    put_cores(into, view.cores)?;
+    put_words(into, "pm", 0x4000_0000, view.held)?;
+    put_fault(into, view.fault)
+}

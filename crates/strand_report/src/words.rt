@@ -1,0 +1,42 @@
+ghost use Rattle.std.specs.Prelude.{◌≡◌, ◌+◌, ◌*◌, ◌^◌, ◌<◌, ◌≤◌, length};
+ghost use Rattle.strand_base.specs.Puts.{Puts};
+ghost use Rattle.strand_report.specs.Numbered.{numbered};
+ghost use Rattle.strand_report.specs.Report.{word_line};
+
+use strand_base::{OutOfMemory, hex_digits, put_line};
+
+fn put_word(
+    into: &mut Vec<u8>,
+    name: &str,
+    base: u64,
+    place: usize,
+    word: u64,
+) -> Result<(), OutOfMemory>
+    requires { base + 8 * place < 2 ^ 64 }
+    ensures { Puts result (word_line name.now base place word) into.old.items into.new.items }
+{
+    if word == 0 {
+        return Ok(());
+    }
+    let address = base + 8 * place as u64;
+    put_line(
+        into,
+        name.as_bytes(),
+        &[hex_digits(address).as_slice(), hex_digits(word).as_slice()],
+    )
+}
+
+pub(crate) fn put_words(
+    into: &mut Vec<u8>,
+    name: &str,
+    base: u64,
+    words: &[u64],
+) -> Result<(), OutOfMemory>
+    requires { base + 8 * length words.now ≤ 2 ^ 64 }
+    ensures { Puts result (numbered (word_line name.now base) words.now) into.old.items into.new.items }
+{
+    for (place, word) in words.iter().enumerate() {
+        put_word(into, name, base, place, *word)?;
+    }
+    Ok(())
+}
