@@ -10,11 +10,8 @@ use Rattle.strand_inputs.specs.declared.step.Step.{Step}
 use Rattle.strand_inputs.specs.declared.step.Step.TheVariants as steps
 use Rattle.strand_exec.specs.Core.{Core}
 use Rattle.strand_exec.specs.Memory.{Memory}
-use Rattle.strand_exec.specs.Plan.{plan_of}
 use Rattle.strand_exec.specs.declared.planned.Plan.{Plan}
 use Rattle.strand_exec.specs.declared.planned.Plan.TheVariants as plans
-use Rattle.strand_exec.specs.declared.life.Life.{Life}
-use Rattle.strand_exec.specs.declared.life.Life.TheVariants.{Running, Halted, Trapped}
 use Rattle.strand_events.specs.declared.event.Event.{Event}
 use Rattle.strand_events.specs.declared.event.Event.TheVariants.{Join}
 use Rattle.strand_events.specs.Trace.{is_persist, is_join, event_is, core_at, passes, persists_of}
@@ -23,8 +20,8 @@ use Rattle.strand_events.proofs.Prefix.{event_is_kept, core_kept}
 use Rattle.strand_events.proofs.Epochs.{direct_parts, between_parts, between_from}
 use Rattle.strand_rules.specs.declared.turn.Turn.{Turn}
 use Rattle.strand_rules.specs.declared.turn.Turn.TheVariants.{Done, Bubble, Fault}
-use Rattle.strand_rules.specs.Visible.{Program, Visible, acted, moved_by, moved_in, retire, visible, grown, event_of}
-use Rattle.strand_rules.specs.Cycle.{State, first_persists, durable_set, some_waits, plan_turn, life_turn, core_turn, write_turn, waiting_at, turn, done_after, after_turn, after, run, start_at}
+use Rattle.strand_rules.specs.Visible.{Program, Visible, plan_by, plan_in, acted, moved_by, moved_in, retire, visible, grown, event_of}
+use Rattle.strand_rules.specs.Cycle.{State, first_persists, durable_set, some_waits, plan_turn, core_turn, write_turn, waiting_at, turn, done_after, after_turn, after, run, start_at}
 
 before_later : (mode : Mode) (t : List Event) (xs : List ℕ) (a b : ℕ) → Leads mode t a xs b → a < b
 before_later mode t [] a b h = (direct_parts mode t a b h).0
@@ -122,12 +119,12 @@ none_waits s e = elim (cases_order (length (persists_of s.now.trace)) s.durable)
 core_state : Program → State → ℕ → Core → Plan → State
 core_state p s n core plan = record { now = acted p s.now n core plan; retired = s.retired ++ n ∷ []; durable = s.durable }
 
-joins : (p : Program) (s : State) (n : ℕ) (core : Core) (b : Bool) → some_waits s ≡ b → Holds s → Holds (after_turn (plan_turn s plans.Join) s (core_state p s n core plans.Join))
+joins : (p : Program) (s : State) (n : ℕ) (core : Core) (b : Bool) → some_waits s ≡ b → Holds s → Holds (after_turn (plan_turn (some_waits s) plans.Join) s (core_state p s n core plans.Join))
 unfolding core_state
 joins p s n core true e h = rw e h
 joins p s n core false e h = rw e (holds_join s.now.trace (Join n) s.durable (none_waits s e))
 
-plan_holds : (p : Program) (s : State) (n : ℕ) (core : Core) (plan : Plan) → Holds s → Holds (after_turn (plan_turn s plan) s (core_state p s n core plan))
+plan_holds : (p : Program) (s : State) (n : ℕ) (core : Core) (plan : Plan) → Holds s → Holds (after_turn (plan_turn (some_waits s) plan) s (core_state p s n core plan))
 unfolding core_state
 plan_holds p s n core plans.Plain h = h
 plan_holds p s n core (plans.Load word) h = holds_more s.now.trace _ s.durable refl h
@@ -139,17 +136,16 @@ plan_holds p s n core (plans.Out value) h = holds_more s.now.trace _ s.durable r
 plan_holds p s n core plans.Halt h = h
 plan_holds p s n core (plans.Trap trap) h = h
 
-life_holds : (p : Program) (s : State) (n : ℕ) (core : Core) (life : Life) → Holds s
-    → Holds (after_turn (life_turn p s core life) s (record { now = moved_by p s.now n core life; retired = s.retired ++ n ∷ []; durable = s.durable }))
+life_holds : (p : Program) (s : State) (n : ℕ) (core : Core) (plan : Option Plan) → Holds s
+    → Holds (after_turn (core_turn (some_waits s) plan) s (record { now = moved_by p s.now n core plan; retired = s.retired ++ n ∷ []; durable = s.durable }))
 unfolding core_state
-life_holds p s n core Running h = plan_holds p s n core (plan_of core p.code p.sizes) h
-life_holds p s n core Halted h = h
-life_holds p s n core (Trapped trap) h = h
+life_holds p s n core None h = h
+life_holds p s n core (Some plan) h = plan_holds p s n core plan h
 
 core_holds : (p : Program) (s : State) (n : ℕ) (core : Option Core) → Holds s
-    → Holds (after_turn (core_turn p s core) s (record { now = moved_in p s.now n core; retired = s.retired ++ n ∷ []; durable = s.durable }))
+    → Holds (after_turn (core_turn (some_waits s) (plan_in p core)) s (record { now = moved_in p s.now n core; retired = s.retired ++ n ∷ []; durable = s.durable }))
 core_holds p s n None h = h
-core_holds p s n (Some core) h = life_holds p s n core core.life h
+core_holds p s n (Some core) h = life_holds p s n core (plan_by p core core.life) h
 
 write_holds : (s : State) (turn : Turn) → Holds s → Holds (after_turn turn s (record s { durable = suc s.durable }))
 write_holds s Done h = holds_next s.now.trace s.durable h

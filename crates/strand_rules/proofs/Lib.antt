@@ -1,3 +1,4 @@
 pub mod Fronts
 pub mod Allowed
 pub mod Stored
+pub mod Keeping

@@ -7,11 +7,8 @@ use Rattle.strand_inputs.specs.declared.step.Step.{Step}
 use Rattle.strand_inputs.specs.declared.step.Step.TheVariants.{Core, Dispatch, Send, Write}
 use Rattle.strand_exec.specs.Core as cores
 use Rattle.strand_exec.specs.Memory.{Memory}
-use Rattle.strand_exec.specs.Plan.{plan_of}
 use Rattle.strand_exec.specs.declared.planned.Plan.{Plan}
 use Rattle.strand_exec.specs.declared.planned.Plan.TheVariants as plans
-use Rattle.strand_exec.specs.declared.life.Life.{Life}
-use Rattle.strand_exec.specs.declared.life.Life.TheVariants.{Running, Halted, Trapped}
 use Rattle.strand_events.specs.declared.event.Event.{Event}
 use Rattle.strand_events.specs.Trace.{is_persist, event_is, word_at, value_at, persists_of}
 use Rattle.strand_events.specs.Order.{Set, image}
@@ -19,7 +16,7 @@ use Rattle.strand_rules.specs.declared.turn.Cause.{Cause}
 use Rattle.strand_rules.specs.declared.turn.Cause.TheVariants as causes
 use Rattle.strand_rules.specs.declared.turn.Turn.{Turn}
 use Rattle.strand_rules.specs.declared.turn.Turn.TheVariants.{Done, Bubble, Fault}
-use Rattle.strand_rules.specs.Visible.{Program, Visible, retire}
+use Rattle.strand_rules.specs.Visible.{Program, Visible, next_plan, retire}
 
 pub record State : Type 0 where
   -- the cores, the memory and the trace
@@ -44,20 +41,15 @@ durable_set s = first_persists s.now.trace s.durable
 abbrev pub some_waits : State → Bool
 some_waits s = nat_lt s.durable (length (persists_of s.now.trace))
 
--- A JoinStrand waits until every persist is durable.
-abbrev pub plan_turn : State → Plan → Turn
-plan_turn s plans.Join = if some_waits s then Bubble causes.Join else Done
-plan_turn s _ = Done
-
-abbrev pub life_turn : Program → State → cores.Core → Life → Turn
-life_turn p s core Running = plan_turn s (plan_of core p.code p.sizes)
-life_turn p s core Halted = Bubble causes.Ended
-life_turn p s core (Trapped trap) = Bubble causes.Ended
+-- A JoinStrand waits while some persist isn't durable.
+abbrev pub plan_turn : Bool → Plan → Turn
+plan_turn waits plans.Join = if waits then Bubble causes.Join else Done
+plan_turn waits _ = Done
 
 -- A core that has ended, or isn't there, retires nothing.
-abbrev pub core_turn : Program → State → Option cores.Core → Turn
-core_turn p s None = Bubble causes.Ended
-core_turn p s (Some core) = life_turn p s core core.life
+abbrev pub core_turn : Bool → Option Plan → Turn
+core_turn waits None = Bubble causes.Ended
+core_turn waits (Some plan) = plan_turn waits plan
 
 -- the j-th of the persists that aren't durable, the oldest first
 abbrev pub waiting_at : State → ℕ → Option ℕ
@@ -70,7 +62,7 @@ write_turn j (Some k) = if j == 0 then Done else Bubble causes.OlderWaits
 
 -- the turn of a step, where the bank takes what is stored
 abbrev pub turn : Program → State → Step → Turn
-turn p s (Core n) = core_turn p s (slice_get s.now.cores n)
+turn p s (Core n) = core_turn (some_waits s) (next_plan p s.now n)
 turn p s (Dispatch n) = Bubble causes.NoItem
 turn p s (Send n b j) = Bubble causes.NoEntry
 turn p s (Write j) = write_turn j (waiting_at s j)

@@ -4,21 +4,22 @@ use Rattle.std.specs.List.{AllByRecursion}
 use Rattle.strand_events.specs.declared.event.Event.{Event}
 use Rattle.strand_events.specs.declared.event.Event.TheVariants.{Store}
 use Rattle.strand_events.specs.Trace.{persists_of}
-use Rattle.strand_rules.specs.Cycle.{State, place_of, address_of}
-use Rattle.strand_rules.specs.Visible.{Program}
+use Rattle.strand_rules.specs.Cycle.{place_of, address_of}
+use Rattle.strand_rules.specs.Machine.{Machine}
 
 -- a persist's word is one of so many persistent words
 abbrev pub IsPlaced : ℕ → Event → Type 0
 IsPlaced words (Store core word value true) = (place_of word < words) × (word ≡ address_of (place_of word))
 IsPlaced words _ = Unit {0}
 
-pub record IsKept (p : Program) (s : State) (made steps : ℕ) : Type 0 where
-  pub cores : length s.now.cores ≤ 4
-  pub volatile : length s.now.memory.volatile ≡ p.sizes.volatile
-  pub persistent : length s.now.memory.persistent ≡ p.sizes.persistent
-  pub made_within : made ≤ steps
-  pub few_events : length s.now.trace ≤ made
-  pub few_retired : length s.retired ≤ made
-  pub few_steps : steps < 2 ^ 32
-  pub durable : s.durable ≤ length (persists_of s.now.trace)
-  pub placed : AllByRecursion (IsPlaced p.sizes.persistent) s.now.trace
+pub record IsKept (m : Machine) : Type 0 where
+  pub cores : length m.state.now.cores ≤ 4
+  pub few_volatile : m.program.sizes.volatile ≤ 1048576
+  pub volatile : length m.state.now.memory.volatile ≡ m.program.sizes.volatile
+  pub persistent : length m.state.now.memory.persistent ≡ m.program.sizes.persistent
+  pub made_within : m.made ≤ m.steps
+  pub few_steps : m.steps < 2 ^ 32
+  pub few_events : length m.state.now.trace ≤ m.made
+  pub few_retired : length m.state.retired ≤ m.made
+  pub durable : m.state.durable ≤ length (persists_of m.state.now.trace)
+  pub placed : AllByRecursion (IsPlaced m.program.sizes.persistent) m.state.now.trace

@@ -55,7 +55,20 @@ abbrev pub grown : List Event → Option Event → List Event
 grown t None = t
 grown t (Some e) = t ++ e ∷ []
 
--- running core n retires an instruction of this plan
+-- what the next instruction of a core asks of the world; a core that has ended, or isn't there, has none
+abbrev pub plan_by : Program → Core → Life → Option Plan
+plan_by p core Running = Some (plan_of core p.code p.sizes)
+plan_by p core Halted = None
+plan_by p core (Trapped trap) = None
+
+abbrev pub plan_in : Program → Option Core → Option Plan
+plan_in p None = None
+plan_in p (Some core) = plan_by p core core.life
+
+abbrev pub next_plan : Program → Visible → ℕ → Option Plan
+next_plan p v n = plan_in p (slice_get v.cores n)
+
+-- what is seen after an instruction of core n with this plan
 abbrev pub acted : Program → Visible → ℕ → Core → Plan → Visible
 acted p v n core plan = record {
   cores = slice_set v.cores n (finished core p.code p.sizes (loaded v.memory plan));
@@ -63,14 +76,13 @@ acted p v n core plan = record {
   trace = grown v.trace (event_of n v.memory plan);
 }
 
-abbrev pub moved_by : Program → Visible → ℕ → Core → Life → Visible
-moved_by p v n core Running = acted p v n core (plan_of core p.code p.sizes)
-moved_by p v n core Halted = v
-moved_by p v n core (Trapped trap) = v
+abbrev pub moved_by : Program → Visible → ℕ → Core → Option Plan → Visible
+moved_by p v n core None = v
+moved_by p v n core (Some plan) = acted p v n core plan
 
 abbrev pub moved_in : Program → Visible → ℕ → Option Core → Visible
 moved_in p v n None = v
-moved_in p v n (Some core) = moved_by p v n core core.life
+moved_in p v n (Some core) = moved_by p v n core (plan_by p core core.life)
 
 -- Core n retires its instruction. A core that has ended isn't changed.
 unfoldable pub retire : Program → Visible → ℕ → Visible

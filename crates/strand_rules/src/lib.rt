@@ -4,12 +4,14 @@
 
 mod bank;
 mod laws;
+mod plain_machine;
 mod ram_module;
 mod refusals;
 mod turn;
 
 pub use bank::ModuleBank;
 pub use laws::durable_sets_are_allowed;
+pub use plain_machine::PlainMachine;
 pub use ram_module::RamModule;
 pub use refusals::{AtModule, Refusals};
 pub use turn::{Cause, Turn};
