@@ -2,7 +2,10 @@
 use Rattle.std.proofs.Common.{◌≡◌, ℕ, ◌+◌, ◌-◌, ◌*◌, ◌/◌, ◌%◌, ◌^◌, ◌<◌, ◌≤◌, bit_and, bit_or, sym, ap, ◌∙◌, arith}
 use Rattle.std.proofs.Math.Nat.{pow-le-pow_right}
 use Rattle.std.proofs.lemmas.Nat.{pow_pos, pow-add, shr-shr, shr_split, and_comm, and_le_l, and_le_r, and_mask, and_block, and-not, or_block, or_shifted, or_disjoint, shl_below, mod_below}
-use Rattle.strand_exec.specs.Arith.{with_bits}
+use Rattle.strand_isa.specs.declared.instr.StoreOp.{StoreOp}
+use Rattle.strand_isa.specs.declared.instr.StoreOp.TheVariants.{Sb, Sh, Sw, Sd}
+use Rattle.strand_exec.specs.Arith.{merged, store_bytes, with_bits}
+use Rattle.strand_exec.specs.Plan.{store_bits, store_mask}
 
 products : (a b c : ℕ) → (a + b) * c ≡ a * c + b * c
 products a b c = omega arith
@@ -52,3 +55,14 @@ merged_is n w p v small fits =
     let summed : bit_or (g * 2 ^ w) (v % 2 ^ w) * 2 ^ p + bit_or l 0 ≡ with_bits w p v n =
     rw (joined, alone, split, power) (regrouped (n / (2 ^ p * 2 ^ w)) (v % 2 ^ w) l (2 ^ w) (2 ^ p)) in
     ap (λ x. bit_or x (v % 2 ^ w * 2 ^ p)) (cleared n w p small fits) ∙ sym (ap (λ x. bit_or (g * 2 ^ w * 2 ^ p + l) x) added) ∙ block ∙ summed
+
+-- an aligned store is inside one word
+fits : (op : StoreOp) (address : ℕ) → address % store_bytes op ≡ 0 → 8 * store_bytes op + 8 * (address % 8) ≤ 64
+fits Sb address aligned = omega arith
+fits Sh address aligned = omega arith
+fits Sw address aligned = omega arith
+fits Sd address aligned = omega arith
+
+pub stored_is : (op : StoreOp) (address value old : ℕ) → address % store_bytes op ≡ 0 → old < 2 ^ 64 → merged old (store_mask op address) (store_bits op address value) ≡ with_bits (8 * store_bytes op) (8 * (address % 8)) value old
+stored_is op address value old aligned small =
+    merged_is old (8 * store_bytes op) (8 * (address % 8)) value small (fits op address aligned)

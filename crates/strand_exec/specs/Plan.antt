@@ -9,7 +9,7 @@ use Rattle.strand_exec.specs.declared.planned.Plan.{Plan}
 use Rattle.strand_exec.specs.declared.planned.Plan.TheVariants.{Plain, Load, Store, Barrier as BarrierPlan, NewStrand, Join as JoinPlan, Out as OutPlan, Halt as HaltPlan, Trap as TrapPlan}
 use Rattle.strand_exec.specs.declared.effect.Effect.{Effect}
 use Rattle.strand_exec.specs.declared.effect.Effect.TheVariants.{Write, Jump, Goto, LoadFrom, StoreTo, Barrier, BeginStrand, Join, Call, Out, Halt, Traps}
-use Rattle.strand_exec.specs.Arith.{load_bytes, load_value, store_bytes}
+use Rattle.strand_exec.specs.Arith.{load_bytes, load_value, merged, store_bytes, with_bits}
 use Rattle.strand_exec.specs.Core.{Core, Extents, at, next_pc, trapped, with_reg}
 use Rattle.strand_exec.specs.Table.{row}
 
@@ -97,10 +97,14 @@ plan_of core code extents = asked (effect_of core code extents)
 unfoldable pub finished : Core → List ℕ → Extents → ℕ → Core
 finished core code extents loaded = after core loaded (effect_of core code extents)
 
+-- an address inside the volatile words or the persistent words
+abbrev pub IsData : Extents → ℕ → Type 0
+IsData extents address =
+    ((0x20000000 ≤ address) × (address < 0x20000000 + 8 * extents.volatile)) ⊎ ((0x40000000 ≤ address) × (address < 0x40000000 + 8 * extents.persistent))
+
 -- the address of a data word
 abbrev pub IsWord : Extents → ℕ → Type 0
-IsWord extents word =
-    (word % 8 ≡ 0) × ((0x20000000 ≤ word) × (word < 0x20000000 + 8 * extents.volatile) ⊎ (0x40000000 ≤ word) × (word < 0x40000000 + 8 * extents.persistent))
+IsWord extents word = (word % 8 ≡ 0) × IsData extents word
 
 -- the word of an access is a data word, and what a store puts into it fits
 abbrev pub IsPlaced : Extents → Plan → Type 0
@@ -108,17 +112,18 @@ IsPlaced extents (Load word) = IsWord extents word
 IsPlaced extents (Store word mask bits) = IsWord extents word × (mask < 2 ^ 64) × (bits < 2 ^ 64)
 IsPlaced extents _ = Unit {0}
 
+-- a store leaves any word with the low bytes of its value at their place, and its other bytes as they were
+abbrev pub IsStored : Effect → Plan → Type 0
+IsStored (StoreTo op address value) (Store word mask bits) =
+    (old : ℕ) → old < 2 ^ 64 → merged old mask bits ≡ with_bits (8 * store_bytes op) (8 * (address % 8)) value old
+IsStored _ _ = Unit {0}
+
 -- the register that an effect writes is one of the 32
 abbrev pub HasRegister : Effect → Type 0
 HasRegister (Write rd value) = rd < 32
 HasRegister (Jump rd link target) = rd < 32
 HasRegister (LoadFrom op rd address) = rd < 32
 HasRegister _ = Unit {0}
-
--- an address inside the volatile words or the persistent words
-abbrev pub IsData : Extents → ℕ → Type 0
-IsData extents address =
-    ((0x20000000 ≤ address) × (address < 0x20000000 + 8 * extents.volatile)) ⊎ ((0x40000000 ≤ address) × (address < 0x40000000 + 8 * extents.persistent))
 
 -- the access of an effect is aligned to its size and inside the data words
 abbrev pub IsAligned : Extents → Effect → Type 0

@@ -1,8 +1,8 @@
 ghost use Rattle.std.specs.Prelude.{◌≡◌, ◌+◌, ◌-◌, ◌*◌, ◌/◌, ◌%◌, ◌^◌, ◌<◌, ◌≤◌, ◌↔◌, IsTrue, Bool};
-ghost use Rattle.strand_exec.specs.Arith.{extended, load_bytes, load_value, store_bytes};
+ghost use Rattle.strand_exec.specs.Arith.{load_bytes, load_value, merged, store_bytes};
 ghost use Rattle.strand_exec.specs.Plan.{IsData, is_data, store_bits, store_mask};
 
-use crate::arithmetic::word;
+use crate::arithmetic::{byte, half, word};
 use crate::sizes::Sizes;
 use strand_isa::{LoadOp, StoreOp};
 
@@ -44,30 +44,6 @@ pub(crate) fn is_data(sizes: Sizes, address: u64) -> bool
     let persistent = 0x4000_0000 + 8 * u64::from(sizes.persistent);
     (0x2000_0000 <= address && address < volatile)
         || (0x4000_0000 <= address && address < persistent)
-}
-
-/// The low byte with its sign carried on.
-fn byte(a: u64) -> u64
-    ensures { result ≡ extended 8 a }
-{
-    let low = a % 0x100;
-    if low < 0x80 {
-        low
-    } else {
-        low + 0xffff_ffff_ffff_ff00
-    }
-}
-
-/// The low two bytes with their sign carried on.
-fn half(a: u64) -> u64
-    ensures { result ≡ extended 16 a }
-{
-    let low = a % 0x1_0000;
-    if low < 0x8000 {
-        low
-    } else {
-        low + 0xffff_ffff_ffff_0000
-    }
 }
 
 /// What a load gives, from the word that holds its bytes.
@@ -132,4 +108,11 @@ pub(crate) fn store_bits(op: StoreOp, address: u64, value: u64) -> u64
         StoreOp::Sw => placed(32, place, value),
         StoreOp::Sd => value,
     }
+}
+
+/// The word after a store: the bits of the mask give way to those of the store.
+pub fn merged(word: u64, mask: u64, bits: u64) -> u64
+    ensures { result ≡ merged word mask bits }
+{
+    (word & !mask) | bits
 }

@@ -19,6 +19,30 @@ pub(crate) fn plus(a: u64, i: i32) -> u64
     a.wrapping_add(residue(i))
 }
 
+/// The low byte with its sign carried on.
+pub(crate) fn byte(a: u64) -> u64
+    ensures { result ≡ extended 8 a }
+{
+    let low = a % 0x100;
+    if low < 0x80 {
+        low
+    } else {
+        low + 0xffff_ffff_ffff_ff00
+    }
+}
+
+/// The low two bytes with their sign carried on.
+pub(crate) fn half(a: u64) -> u64
+    ensures { result ≡ extended 16 a }
+{
+    let low = a % 0x1_0000;
+    if low < 0x8000 {
+        low
+    } else {
+        low + 0xffff_ffff_ffff_0000
+    }
+}
+
 /// The low 32 bits with their sign carried on.
 pub(crate) fn word(a: u64) -> u64
     ensures { result ≡ extended 32 a }
@@ -35,18 +59,6 @@ fn add_word(a: u64, b: u64) -> u64
     ensures { result ≡ extended 32 (a + b) }
 {
     word(a.wrapping_add(b))
-}
-
-fn subtract(a: u64, b: u64) -> u64
-    ensures { result ≡ (a + 2 ^ 64 - b) % 2 ^ 64 }
-{
-    a.wrapping_sub(b)
-}
-
-fn subtract_word(a: u64, b: u64) -> u64
-    ensures { result ≡ extended 32 (a + 2 ^ 64 - b) }
-{
-    word(a.wrapping_sub(b))
 }
 
 fn less(a: u64, b: u64) -> bool
@@ -143,7 +155,7 @@ pub(crate) fn reg_value(op: RegOp, a: u64, b: u64) -> u64
 {
     match op {
         RegOp::Add => a.wrapping_add(b),
-        RegOp::Sub => subtract(a, b),
+        RegOp::Sub => a.wrapping_sub(b),
         RegOp::Sll => shift_value(ShiftOp::Slli, a, (b % 64) as u8),
         RegOp::Slt => u64::from(less(a, b)),
         RegOp::Sltu => u64::from(a < b),
@@ -153,7 +165,7 @@ pub(crate) fn reg_value(op: RegOp, a: u64, b: u64) -> u64
         RegOp::Or => a | b,
         RegOp::And => a & b,
         RegOp::Addw => add_word(a, b),
-        RegOp::Subw => subtract_word(a, b),
+        RegOp::Subw => word(a.wrapping_sub(b)),
         RegOp::Sllw => shift_value(ShiftOp::Slliw, a, (b % 32) as u8),
         RegOp::Srlw => shift_value(ShiftOp::Srliw, a, (b % 32) as u8),
         RegOp::Sraw => shift_value(ShiftOp::Sraiw, a, (b % 32) as u8),

@@ -58,10 +58,13 @@ impl FlatMemory {
     }
 
     /// Puts another value into the word at an address. All other words stay.
-    #[tactic(auto, unfolding(crate::specs::Memory::with_word))]
+    #[tactic(auto, unfolding(crate::specs::Memory::with_word, crate::specs::Memory::word_in))]
     pub fn write(&mut self, word: u64, value: u64)
         requires { IsWord (extents_of self.old) word }
-        ensures { self.new ≡ with_word self.old word value }
+        ensures memory { self.new ≡ with_word self.old word value }
+        ensures written { word_in self.new word ≡ value }
+        ensures others { (other : ℕ) → IsWord (extents_of self.old) other → other ≢ word → word_in self.new other ≡ word_in self.old other }
+        ensures extents { extents_of self.new ≡ extents_of self.old }
     {
         if word < 0x4000_0000 {
             self.volatile[((word - 0x2000_0000) / 8) as usize] = value;

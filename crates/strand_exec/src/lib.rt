@@ -13,6 +13,7 @@ mod planning;
 mod rows;
 mod sizes;
 
+pub use accesses::merged;
 pub use core_state::CoreState;
 pub use finishing::finish;
 pub use flat_memory::FlatMemory;
@@ -20,3 +21,6 @@ pub use life::{Life, Trap};
 pub use planned::Plan;
 pub use planning::plan;
 pub use sizes::Sizes;
+
+#[cfg(test)]
+mod tests;

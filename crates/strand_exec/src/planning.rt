@@ -1,5 +1,5 @@
 ghost use Rattle.std.specs.Prelude.{◌≡◌, ◌<◌};
-ghost use Rattle.strand_exec.specs.Plan.{HasRegister, IsAligned, IsPlaced, accessing, effect_of, fetched, jumping, plan_of, trapping};
+ghost use Rattle.strand_exec.specs.Plan.{HasRegister, IsAligned, IsPlaced, IsStored, accessing, effect_of, fetched, jumping, plan_of, trapping};
 
 use crate::accesses::{is_data, load_bytes, store_bits, store_bytes, store_mask};
 use crate::core_state::CoreState;
@@ -104,6 +104,7 @@ pub fn plan(core: &CoreState, code: &[u32], sizes: Sizes) -> Plan
     requires { core.now.life ≡ Life.Running }
     ensures table { result ≡ plan_of core.now code.now sizes }
     ensures placed { IsPlaced sizes result }
+    ensures stored { IsStored (effect_of core.now code.now sizes) result }
 {
     match effect(core, code, sizes) {
         Effect::LoadFrom {
