@@ -1,8 +1,14 @@
+ghost use Rattle.std.specs.Prelude.{◌<◌};
+ghost use Rattle.strand_events.specs.Fits.{EventFits};
+
 use super::*;
 use std::test::*;
 use strand_inputs::Mode;
 
-fn store(core: u32, word: u64) -> Event {
+fn store(core: u32, word: u64) -> Event
+    requires { core < 8 }
+    ensures { EventFits result }
+{
     Event::Store {
         core,
         word,
@@ -14,22 +20,17 @@ fn store(core: u32, word: u64) -> Event {
 #[test]
 fn strands_and_epochs_are_numbered(rt: HostRuntime) -> Result<(), Fail> {
     let mut trace = Trace::new(rt.alloc(), 8).ok().ok_or("memory")?;
-    let events = [
-        store(0, 0x4000_0000),
-        Event::Barrier { core: 0 },
-        store(1, 0x2000_0000),
-        store(0, 0x4000_0008),
-        Event::NewStrand { core: 0 },
-        store(0, 0x4000_0010),
-        Event::Join { core: 0 },
-        Event::Load {
-            core: 0,
-            word: 0x4000_0000,
-        },
-    ];
-    for e in &events {
-        trace.push(*e);
-    }
+    trace.push(store(0, 0x4000_0000));
+    trace.push(Event::Barrier { core: 0 });
+    trace.push(store(1, 0x2000_0000));
+    trace.push(store(0, 0x4000_0008));
+    trace.push(Event::NewStrand { core: 0 });
+    trace.push(store(0, 0x4000_0010));
+    trace.push(Event::Join { core: 0 });
+    trace.push(Event::Load {
+        core: 0,
+        word: 0x4000_0000,
+    });
     // the strand under strand, and the epochs under strand, epoch and strict
     let table = [
         (0, 0, 0, 0),
