@@ -2,4 +2,6 @@ pub mod Prefix
 pub mod Epochs
 pub mod Chain
 pub mod Images
+pub mod Marking
 pub mod Kept
+mod Rows

@@ -2,7 +2,11 @@
 #![tactic(auto)]
 
 mod event;
+mod marks;
 mod trace;
 
 pub use event::Event;
 pub use trace::Trace;
+
+#[cfg(test)]
+mod tests;

@@ -1,18 +1,23 @@
 ghost use Rattle.std.specs.Prelude.{◌≡◌, ◌^◌, ◌<◌, ◌≤◌, [], ◌∷◌, ◌++◌, length, slice_get, Some, IfOk, if◌then◌else◌, vec_len, vec_capacity};
-ghost use Rattle.strand_events.specs.Trace.{core_of, is_persist, persists_of};
+ghost use Rattle.strand_events.specs.Trace.{core_of, epoch, is_persist, persists_of, strand_number};
 ghost use Rattle.strand_events.specs.Fits.{IsMarked, AllFit};
 
-use crate::event::Event;
+use crate::event::{Event, core_of};
+use crate::marks::{Marks, NOTHING_MADE, epoch_in, marks_after, strand_in};
 use std::alloc::Global;
 use std::marker::Model;
 use strand_base::OutOfMemory;
+use strand_inputs::Mode;
 
 /// The events of a run, the oldest first, in room that was taken at the start. An event is named by
-/// its place, and so is a persist among the persists.
+/// its place, and so is a persist among the persists. Beside each event stands what its core had made
+/// before it, so that strands and epochs are numbered without looking back.
 #[derive(Debug, Drop)]
 pub struct Trace {
     events: Vec<Event>,
     persists: Vec<u32>,
+    marks: Vec<Marks>,
+    latest: [Marks; 8],
     room: usize,
 }
 
@@ -26,7 +31,8 @@ impl Model for Trace {
 
     ghost view = { λ t. record { events = t.events.items; room = t.room } };
 
-    ghost invariant = { λ t. IsKept t.events.items t.room t.persists.items × (t.room ≤ vec_capacity t.events) × (t.room ≤ vec_capacity t.persists) };
+    ghost invariant = { λ t. IsKept t.events.items t.room t.persists.items t.marks.items t.latest
+        × (t.room ≤ vec_capacity t.events) × (t.room ≤ vec_capacity t.persists) × (t.room ≤ vec_capacity t.marks) };
 }
 
 impl Trace {
@@ -39,6 +45,8 @@ impl Trace {
         Ok(Trace {
             events: Vec::with_capacity(alloc, room)?,
             persists: Vec::with_capacity(alloc, room)?,
+            marks: Vec::with_capacity(alloc, room)?,
+            latest: [NOTHING_MADE; 8],
             room,
         })
     }
@@ -75,6 +83,24 @@ impl Trace {
         self.persists[p as usize] as usize
     }
 
+    /// The strand of an event, a number among the strands of its core. It takes no memory and constant
+    /// time.
+    pub fn strand_of(&self, mode: Mode, event: usize) -> u32
+        requires { event < length self.now.events }
+        ensures { result ≡ strand_number mode self.now.events event }
+    {
+        strand_in(mode, self.marks[event])
+    }
+
+    /// The epoch of an event, a number within its strand. It takes no memory and constant time.
+    #[tactic(auto, using(crate::proofs::Marking::epoch_marked))]
+    pub fn epoch_of(&self, mode: Mode, event: usize) -> u32
+        requires { event < length self.now.events }
+        ensures { result ≡ epoch mode self.now.events event }
+    {
+        epoch_in(mode, self.marks[event])
+    }
+
     /// Puts an event at the end. It takes no memory.
     pub fn push(&mut self, e: Event)
         requires room { length self.old.events < self.old.room }
@@ -83,7 +109,11 @@ impl Trace {
         ensures events { self.new.events ≡ self.old.events ++ e ∷ [] }
         ensures room { self.new.room ≡ self.old.room }
     {
+        let core = core_of(e) as usize;
+        let marks = self.latest[core];
         note_persist(&mut self.persists, e, self.events.len() as u32);
+        self.marks.push_reserved(marks);
+        self.latest[core] = marks_after(marks, e);
         self.events.push_reserved(e);
     }
 }

@@ -42,6 +42,18 @@ fn a_machine_file_is_refused_at_its_first_fault(rt: HostRuntime) {
 }
 
 #[test]
+fn a_fault_is_printed(rt: HostRuntime) -> Result<(), Fail> {
+    let fault = InputFault::Missing { key: Key::Ways };
+    assert_eq!(rt; fault.to_string(rt.alloc())?, "ways is missing");
+    let fault = InputFault::Limit { line: 3, value: 65 };
+    assert_eq!(rt;
+        fault.to_string(rt.alloc())?,
+        "line 3: 65 is outside its limits"
+    );
+    Ok(())
+}
+
+#[test]
 fn a_schedule_is_read_and_printed(rt: HostRuntime) -> Result<(), Fail> {
     let text = b"c 0\nc 0 * 2\ns 1 0 3\nw 63 * 1\nd 1\n";
     let mut schedule = read_schedule(rt.alloc(), text, 2, 1)
