@@ -12,3 +12,6 @@ pub use fault::{ImageFault, Quantity};
 pub use image::Image;
 pub use reading::read_image;
 pub use writing::write_image;
+
+#[cfg(test)]
+mod tests;
