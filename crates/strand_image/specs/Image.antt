@@ -108,14 +108,25 @@ abbrev pub Gives : {X : Type 0} → Result X ImageFault → Result X ImageFault 
 Gives (Err OutOfMemory) read = Unit {0}
 Gives result read = result ≡ read
 
--- the one spelling of an image
-abbrev pub u32_bytes : List ℕ → List ℕ
-u32_bytes ns = flat_map (λ n. to_le_bytes w32 n) ns
+-- the bytes of a number, the low byte first
+unfoldable pub bytes_of_u32 : ℕ → List ℕ
+bytes_of_u32 n = to_le_bytes w32 n
 
-abbrev pub u64_bytes : List ℕ → List ℕ
-u64_bytes ns = flat_map (λ n. to_le_bytes w64 n) ns
+unfoldable pub bytes_of_u64 : ℕ → List ℕ
+bytes_of_u64 n = to_le_bytes w64 n
+
+abbrev pub bytes_of_u32s : List ℕ → List ℕ
+bytes_of_u32s ns = flat_map bytes_of_u32 ns
+
+abbrev pub bytes_of_u64s : List ℕ → List ℕ
+bytes_of_u64s ns = flat_map bytes_of_u64 ns
+
+-- the one spelling of an image
+abbrev pub header_bytes : Parts → List ℕ
+header_bytes p = codes "STRANDP1" ++ bytes_of_u32s (length p.entries ∷ length p.code ∷ length p.volatile ∷ length p.persistent ∷ [])
+
+abbrev pub list_bytes : Parts → List ℕ
+list_bytes p = bytes_of_u32s p.entries ++ (bytes_of_u32s p.code ++ (bytes_of_u64s p.volatile ++ bytes_of_u64s p.persistent))
 
 unfoldable pub image_bytes : Parts → List ℕ
-image_bytes p = codes "STRANDP1"
-    ++ (u32_bytes (length p.entries ∷ length p.code ∷ length p.volatile ∷ length p.persistent ∷ [])
-    ++ (u32_bytes p.entries ++ (u32_bytes p.code ++ (u64_bytes p.volatile ++ u64_bytes p.persistent))))
+image_bytes p = header_bytes p ++ list_bytes p

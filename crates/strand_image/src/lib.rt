@@ -6,7 +6,12 @@ mod fault;
 mod image;
 mod numbers;
 mod reading;
+mod writing;
 
 pub use fault::{ImageFault, Quantity};
 pub use image::Image;
 pub use reading::read_image;
+pub use writing::write_image;
+
+#[cfg(test)]
+mod tests;

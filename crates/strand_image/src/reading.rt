@@ -106,6 +106,7 @@ fn read_parts(alloc: Global, bytes: &[u8], header: Header) -> Result<Image, Imag
 #[tactic(auto, unfolding(crate::specs::Image::image_of))]
 pub fn read_image(alloc: Global, bytes: &[u8]) -> Result<Image, ImageFault>
     ensures gives { Gives result (image_of bytes.now) }
+    ensures spelling { IfOk result (λ image. bytes.now ≡ image_bytes image) }
 {
     let header = header_of(bytes)?;
     check_length(header, bytes.len() as u64)?;
