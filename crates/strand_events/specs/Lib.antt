@@ -1,0 +1,4 @@
+pub mod Trace
+pub mod Order
+pub mod Fits
+pub mod TraceSeen

@@ -1,0 +1,100 @@
+ghost use Rattle.std.specs.Prelude.{◌≡◌, ◌^◌, ◌<◌, ◌≤◌, [], ◌∷◌, ◌++◌, length, slice_get, Some, IfOk, if◌then◌else◌, vec_len, vec_capacity};
+ghost use Rattle.strand_events.specs.Trace.{core_of, is_persist, persists_of};
+ghost use Rattle.strand_events.specs.Fits.{IsMarked, AllFit};
+
+use crate::event::Event;
+use std::alloc::Global;
+use std::marker::Model;
+use strand_base::OutOfMemory;
+
+/// The events of a run, the oldest first, in room that was taken at the start. An event is named by
+/// its place, and so is a persist among the persists.
+#[derive(Debug, Drop)]
+pub struct Trace {
+    events: Vec<Event>,
+    persists: Vec<u32>,
+    room: usize,
+}
+
+impl Model for Trace {
+    ghost use Rattle.strand_events.specs.TraceSeen.{TraceSeen};
+
+    ghost Value = { TraceSeen };
+
+    ghost use Rattle.std.specs.Prelude.{◌≤◌, vec_capacity};
+    ghost use Rattle.strand_events.specs.TraceSeen.{IsKept};
+
+    ghost view = { λ t. record { events = t.events.items; room = t.room } };
+
+    ghost invariant = { λ t. IsKept t.events.items t.room t.persists.items × (t.room ≤ vec_capacity t.events) × (t.room ≤ vec_capacity t.persists) };
+}
+
+impl Trace {
+    /// An empty trace with room for so many events. It takes all the memory that the trace will need.
+    pub fn new(alloc: Global, room: usize) -> Result<Trace, OutOfMemory>
+        requires { room < 2 ^ 32 }
+        ensures empty { IfOk result (λ t. t.events ≡ []) }
+        ensures room { IfOk result (λ t. t.room ≡ room) }
+    {
+        Ok(Trace {
+            events: Vec::with_capacity(alloc, room)?,
+            persists: Vec::with_capacity(alloc, room)?,
+            room,
+        })
+    }
+
+    /// The events, the oldest first.
+    pub fn events(&self) -> &[Event]
+        ensures events { result.now ≡ self.now.events }
+        ensures within { length self.now.events ≤ self.now.room }
+        ensures small { self.now.room < 2 ^ 32 }
+        ensures fits { AllFit self.now.events }
+    {
+        &self.events
+    }
+
+    /// How many events there is room for.
+    pub fn room(&self) -> usize
+        ensures { result ≡ self.now.room }
+    {
+        self.room
+    }
+
+    /// How many of the events are persists.
+    pub fn persists(&self) -> u32
+        ensures { result ≡ length (persists_of self.now.events) }
+    {
+        self.persists.len() as u32
+    }
+
+    /// The event number of a persist.
+    pub fn persist_at(&self, p: u32) -> usize
+        requires { p < length (persists_of self.now.events) }
+        ensures { slice_get (persists_of self.now.events) p ≡ Some result }
+    {
+        self.persists[p as usize] as usize
+    }
+
+    /// Puts an event at the end. It takes no memory.
+    pub fn push(&mut self, e: Event)
+        requires room { length self.old.events < self.old.room }
+        requires core { core_of e < 8 }
+        requires persist { IsMarked e }
+        ensures events { self.new.events ≡ self.old.events ++ e ∷ [] }
+        ensures room { self.new.room ≡ self.old.room }
+    {
+        note_persist(&mut self.persists, e, self.events.len() as u32);
+        self.events.push_reserved(e);
+    }
+}
+
+/// Notes the number of an event that is a persist.
+fn note_persist(persists: &mut Vec<u32>, e: Event, number: u32)
+    requires { vec_len persists.old < vec_capacity persists.old }
+    ensures items { persists.new.items ≡ (if is_persist e then persists.old.items ++ number ∷ [] else persists.old.items) }
+    ensures capacity { vec_capacity persists.new ≡ vec_capacity persists.old }
+{
+    if matches!(e, Event::Store { persist: true, .. }) {
+        persists.push_reserved(number);
+    }
+}

@@ -1,0 +1,5 @@
+pub mod Arith
+pub mod Core
+pub mod Table
+pub mod Plan
+pub mod Memory

@@ -1,0 +1,4 @@
+pub mod Codes
+pub mod Word
+pub mod Faults
+pub mod Decode
