@@ -1,5 +1,5 @@
 -- What a sink has taken, over several calls.
-use Rattle.std.proofs.Common.{◌≡◌, ℕ, ◌+◌, List, [], ◌++◌, length, take, drop, refl, append_assoc, append-nil, sym, ◌∙◌, ap}
+use Rattle.std.proofs.Common.{ℕ, List, [], ◌++◌, append_assoc, append-nil, sym, ◌∙◌, ap}
 use Rattle.std.specs.Prelude.{None, Some}
 use Rattle.std.specs.declared.option.Option.{Option}
 use Rattle.strand_base.specs.SinkSeen.{Takes}

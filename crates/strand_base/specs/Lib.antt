@@ -2,6 +2,9 @@ pub mod Counting
 pub mod Counts
 pub mod FilesSeen
 pub mod SinkSeen
+pub mod Plan
+pub mod SinkInMemory
+pub mod FilesInMemory
 pub mod ModuleSeen
 pub mod Text
 pub mod Number

@@ -1,21 +1,31 @@
-// Which calls of a fake are to fail.
-ghost use Rattle.std.specs.Prelude.{◌≡◌, ◌<◌, ◌↔◌, ◌+◌, ◌-◌, ◌^◌, [], ◌∷◌, ◌++◌, Contains, IsTrue, OnOk, OnErr};
-ghost use Rattle.strand_base.specs.Counts.{next};
+ghost use Rattle.std.specs.Prelude.{◌≡◌, ◌↔◌, [], IsTrue, OnOk, OnErr};
+ghost use Rattle.strand_base.specs.Plan.{FailsNext, called, naming};
 
 use crate::OutOfMemory;
 use std::alloc::Global;
+use std::marker::Model;
 
-/// The numbers of the calls that are to fail, counted from 1, and how many calls were made.
+/// Which calls of a fake are to fail, by their numbers, and how many calls were made.
+///
+/// Calls are counted from 1. The count stays at 2^64 - 1, and a call past it has no number.
 #[derive(Drop)]
 pub struct FaultPlan {
-    pub made: u64,
-    pub failing: Vec<u64>,
+    made: u64,
+    failing: Vec<u64>,
+}
+
+impl Model for FaultPlan {
+    ghost use Rattle.strand_base.specs.Plan.{Plan};
+
+    ghost Value = { Plan };
+
+    ghost view = { λ p. record { made = p.made; failing = p.failing.items } };
 }
 
 impl FaultPlan {
+    /// No call was made, and none is to fail. It takes no memory.
     pub fn new(alloc: Global) -> FaultPlan
-        ensures made { result.made ≡ 0 }
-        ensures failing { result.failing.items ≡ [] }
+        ensures { result ≡ record { made = 0; failing = [] } }
     {
         FaultPlan {
             made: 0,
@@ -23,20 +33,19 @@ impl FaultPlan {
         }
     }
 
+    /// Names one more call that is to fail. A refusal changes nothing.
     pub fn fail_at(&mut self, call: u64) -> Result<(), OutOfMemory>
-        ensures made { self.new.made ≡ self.old.made }
-        ensures ok { OnOk result (self.new.failing.items ≡ self.old.failing.items ++ call ∷ []) }
-        ensures err { OnErr result (self.new.failing.items ≡ self.old.failing.items) }
+        ensures ok { OnOk result (self.new ≡ naming call self.old) }
+        ensures err { OnErr result (self.new ≡ self.old) }
     {
         self.failing.push(call)?;
         Ok(())
     }
 
-    /// Counts a call, and says whether it is to fail. A call past the last number has none.
+    /// Counts a call, and says whether it is to fail.
     pub fn fires(&mut self) -> bool
-        ensures fires { IsTrue result ↔ ((self.old.made < 2 ^ 64 - 1) × Contains self.old.failing.items (self.old.made + 1)) }
-        ensures made { self.new.made ≡ next self.old.made }
-        ensures failing { self.new.failing.items ≡ self.old.failing.items }
+        ensures fires { IsTrue result ↔ FailsNext self.old }
+        ensures plan { self.new ≡ called self.old }
     {
         if self.made == u64::MAX {
             return false;

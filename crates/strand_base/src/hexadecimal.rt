@@ -1,9 +1,29 @@
-ghost use Rattle.std.specs.Prelude.{◌≡◌, ◌<◌};
+ghost use Rattle.std.specs.Prelude.{◌≡◌, ◌<◌, position, not};
+ghost use Rattle.std.specs.Char.{is_ascii_hexdigit};
 ghost use Rattle.strand_base.specs.Hexadecimal.{hex_digit, hex16};
+ghost use Rattle.strand_base.specs.Number.{hexadecimal_of};
 ghost use Rattle.strand_base.specs.Puts.{Puts};
 
-use crate::OutOfMemory;
+use crate::digits::number_in;
 use crate::writing::put;
+use crate::{NumberFault, OutOfMemory};
+
+fn no_hex_digit_at(text: &[u8]) -> Option<usize>
+    ensures { result ≡ position (λ c. not (is_ascii_hexdigit c)) text.now }
+{
+    text.iter().position(|b| !b.is_ascii_hexdigit())
+}
+
+/// The number that the hexadecimal digits 0 to 9, a to f and A to F write. Leading zeros are accepted, and
+/// nothing stands before the digits. It takes no memory.
+///
+/// `Empty` comes exactly for no bytes, `BadDigit` exactly for the first byte that is no digit, and
+/// `TooLarge` exactly where all bytes are digits and the number is past 2^64 - 1.
+pub fn read_hex(text: &[u8]) -> Result<u64, NumberFault>
+    ensures { result ≡ hexadecimal_of text.now }
+{
+    number_in(16, no_hex_digit_at(text), text)
+}
 
 fn hex_digit(n: u8) -> u8
     requires { n < 16 }

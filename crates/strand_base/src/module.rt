@@ -1,29 +1,33 @@
-ghost use Rattle.std.specs.Prelude.{◌≡◌, ◌<◌, ◌≤◌, ◌^◌, length, IfOk, IfSome, OnOk, OnErr, Some, slice_get};
-ghost use Rattle.strand_base.specs.Counts.{HasCause};
-ghost use Rattle.strand_base.specs.ModuleSeen.{ModuleSeen, written};
+ghost use Rattle.std.specs.Prelude.{◌≡◌, ◌<◌, length, IfSome};
+ghost use Rattle.strand_base.specs.ModuleSeen.{ModuleSeen, LoadsWord, StoresWord};
 
+/// The module did not load or store: its count of faults has risen, and no word has changed.
 #[derive(Clone, Copy, Debug, PartialEq, Eq)]
 pub struct ModuleFailed;
 
+/// A memory module: words of 64 bits, numbered from 0 (docs/outside.md).
+///
+/// `holds` is what contracts know of it: its size, which never changes, its words, where the object tells
+/// them, and the count of faults, which never falls.
 pub trait PmModule: Drop {
     ghost holds: { Self → ModuleSeen };
 
+    /// How many words it has.
     fn words(&self) -> u64
         ensures size { result ≡ (holds self.now).size }
         ensures told { IfSome (holds self.now).told (λ words. length words ≡ result) };
 
+    /// The word at `at`, which is below `words()`. No word changes.
+    ///
+    /// `ModuleFailed`, only where the count of faults has risen.
     fn load(&mut self, at: u64) -> Result<u64, ModuleFailed>
         requires { at < (holds self.old).size }
-        ensures value { IfOk result (λ value. IfSome (holds self.old).told (λ words. slice_get words at ≡ Some value)) }
-        ensures size { (holds self.new).size ≡ (holds self.old).size }
-        ensures same { (holds self.new).told ≡ (holds self.old).told }
-        ensures cause { HasCause (holds self.old).faults (holds self.new).faults result };
+        ensures { LoadsWord (holds self.old) (holds self.new) at result };
 
+    /// Writes the word at `at`, which is below `words()`, and no other.
+    ///
+    /// `ModuleFailed`, only where the count of faults has risen: no word has changed.
     fn store(&mut self, at: u64, value: u64) -> Result<(), ModuleFailed>
         requires { at < (holds self.old).size }
-        ensures told { IfSome (holds self.old).told (λ words. length words ≡ (holds self.old).size) }
-        ensures ok { OnOk result ((holds self.new).told ≡ written (holds self.old).told at value) }
-        ensures err { OnErr result ((holds self.new).told ≡ (holds self.old).told) }
-        ensures size { (holds self.new).size ≡ (holds self.old).size }
-        ensures cause { HasCause (holds self.old).faults (holds self.new).faults result };
+        ensures { StoresWord (holds self.old) (holds self.new) at value result };
 }

@@ -1,18 +1,19 @@
-ghost use Rattle.std.specs.Prelude.{◌≡◌, ◌<◌, ◌≤◌, length, take, IfOk, OnErr};
-ghost use Rattle.strand_base.specs.Counts.{HasCause};
-ghost use Rattle.strand_base.specs.SinkSeen.{SinkSeen, Takes};
+ghost use Rattle.strand_base.specs.SinkSeen.{SinkSeen, TakesFront};
 
+/// The sink took nothing of the piece: its count of faults has risen.
 #[derive(Clone, Copy, Debug, PartialEq, Eq)]
 pub struct SinkFailed;
 
+/// Where bytes are put, one piece after the other (docs/outside.md).
+///
+/// `seen` is what contracts know of it: the bytes taken so far, where the object tells them, and the count
+/// of faults, which never falls.
 pub trait Sink {
     ghost seen: { Self → SinkSeen };
 
-    /// Takes some first bytes of the piece, and says how many.
+    /// Takes some first bytes of the piece, and says how many: at least one where it has any.
+    ///
+    /// `SinkFailed`, only where the count of faults has risen: nothing of the piece was taken.
     fn put(&mut self, piece: &[u8]) -> Result<usize, SinkFailed>
-        ensures bound { IfOk result (λ count. count ≤ length piece.now) }
-        ensures some { IfOk result (λ count. 0 < length piece.now → 0 < count) }
-        ensures ok { IfOk result (λ count. Takes (seen self.old).taken (seen self.new).taken (take count piece.now)) }
-        ensures err { OnErr result ((seen self.new).taken ≡ (seen self.old).taken) }
-        ensures cause { HasCause (seen self.old).faults (seen self.new).faults result };
+        ensures { TakesFront (seen self.old) (seen self.new) piece.now result };
 }

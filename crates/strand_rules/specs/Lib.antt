@@ -1,1 +1,4 @@
 pub mod Bank
+pub mod Visible
+pub mod Cycle
+pub mod Kept

@@ -3,9 +3,14 @@
 #![tactic(auto)]
 
 mod bank;
+mod laws;
 mod ram_module;
 mod refusals;
+mod turn;
 
 pub use bank::ModuleBank;
+pub use laws::durable_sets_are_allowed;
 pub use ram_module::RamModule;
 pub use refusals::{AtModule, Refusals};
+pub use turn::{Cause, Turn};
+

@@ -1,7 +1,6 @@
-use Rattle.std.proofs.Common.{arith, ◌≡◌, ◌≤◌, ◌-◌, length, take, drop, ◌++◌, ◌+◌, length-drop}
+use Rattle.std.proofs.Common.{arith, ◌≤◌, length, drop, length-drop}
 use Rattle.std.proofs.lemmas.List.{take_rest}
 use Rattle.std.proofs.Math.Seq.{take-add}
-use Rattle.strand_base.specs.SinkSeen.{Takes}
 use Rattle.strand_base.proofs.Taken.{Takes-append}
 use Rattle.strand_base.proofs.putting.put_all.Goals as goal
 

@@ -1,0 +1,55 @@
+ghost use Rattle.std.specs.Prelude.{◌≡◌, [], true, length, IfOk, Ok};
+ghost use Rattle.strand_base.specs.SinkInMemory.{sink_never_failing, keeping};
+ghost use Rattle.strand_base.specs.SinkSeen.{TakesFront};
+
+use crate::kept_bytes::KeptBytes;
+use crate::{OutOfMemory, Sink, SinkFailed};
+use std::alloc::Global;
+use std::marker::Model;
+
+/// A sink in memory that takes each piece whole and never fails: the count of faults is always 0. It
+/// keeps and tells what it takes as long as that fits its room.
+#[derive(Drop)]
+pub struct NeverSink {
+    kept: KeptBytes,
+}
+
+impl Model for NeverSink {
+    ghost use Rattle.strand_base.specs.SinkInMemory.{Kept};
+
+    ghost Value = { Kept };
+
+    ghost view = { λ s. s.kept };
+}
+
+impl NeverSink {
+    /// A sink that keeps at most `room` bytes, for which it takes memory here.
+    pub fn new(alloc: Global, room: usize) -> Result<NeverSink, OutOfMemory>
+        ensures { IfOk result (λ sink. sink ≡ record { bytes = []; room = room; whole = true }) }
+    {
+        Ok(NeverSink {
+            kept: KeptBytes::new(alloc, room)?,
+        })
+    }
+
+    /// The bytes that it keeps.
+    pub fn bytes(&self) -> &[u8]
+        ensures { result.now ≡ self.now.bytes }
+    {
+        self.kept.bytes()
+    }
+}
+
+impl Sink for NeverSink {
+    ghost seen = { sink_never_failing };
+
+    /// Takes the whole piece.
+    fn put(&mut self, piece: &[u8]) -> Result<usize, SinkFailed>
+        ensures takes { TakesFront (sink_never_failing self.old) (sink_never_failing self.new) piece.now result }
+        ensures ok { result ≡ Ok (length piece.now) }
+        ensures kept { self.new ≡ keeping piece.now self.old }
+    {
+        self.kept.keep(piece);
+        Ok(piece.len())
+    }
+}

@@ -1,0 +1,121 @@
+-- An image file, by whole fields: what its bytes say or their first fault, and the one spelling of an image.
+use Rattle.std.specs.Prelude.{◌≡◌, ℕ, zero, suc, ◌+◌, ◌*◌, nat_lt, nat_le, List, [], ◌∷◌, ◌++◌, length, take, drop, position, slice_index, Option, Some, None, Result, Ok, Err, if◌then◌else◌}
+use Rattle.std.specs.Int.{w32, w64, from_le_bytes, to_le_bytes}
+use Rattle.std.specs.List.{flat_map}
+use Rattle.std.specs.Str.{bytes_eq}
+use lib.Chars.{codes}
+use Rattle.strand_image.specs.Parts.{Parts, parts}
+use Rattle.strand_image.specs.Limits.{is_within}
+use Rattle.strand_image.specs.declared.fault.Quantity.{Quantity}
+use Rattle.strand_image.specs.declared.fault.Quantity.TheVariants.{Cores, Code, Volatile, Persistent}
+use Rattle.strand_image.specs.declared.fault.ImageFault.{ImageFault}
+use Rattle.strand_image.specs.declared.fault.ImageFault.TheVariants.{Magic, Short, Long, Limit, Entry, OutOfMemory}
+use Rattle.strand_image.specs.declared.reading.Header.{Header}
+
+infixl 10 ◌>>=◌
+abbrev pub ◌>>=◌ : {A B : Type 0} → Result A ImageFault → (A → Result B ImageFault) → Result B ImageFault
+(Ok x) >>= f = f x
+(Err e) >>= f = Err e
+
+-- the number that the first four, or eight, bytes write, the low byte first
+unfoldable pub u32_of : List ℕ → ℕ
+u32_of bytes = from_le_bytes w32 (take 4 bytes)
+
+unfoldable pub u64_of : List ℕ → ℕ
+u64_of bytes = from_le_bytes w64 (take 8 bytes)
+
+-- so many numbers, one after the other
+unfoldable pub numbers : (List ℕ → ℕ) → ℕ → ℕ → List ℕ → List ℕ
+numbers number size zero bytes = []
+numbers number size (suc count) bytes = number bytes ∷ numbers number size count (drop size bytes)
+
+abbrev pub u32s : ℕ → List ℕ → List ℕ
+u32s count bytes = numbers u32_of 4 count bytes
+
+abbrev pub u64s : ℕ → List ℕ → List ℕ
+u64s count bytes = numbers u64_of 8 count bytes
+
+-- the four numbers behind the first eight bytes
+abbrev pub header_at : List ℕ → Header
+header_at bytes = record { cores = u32_of (drop 8 bytes); code = u32_of (drop 12 bytes); volatile = u32_of (drop 16 bytes); persistent = u32_of (drop 20 bytes) }
+
+-- the bytes of a whole file
+abbrev pub file_length : Header → ℕ
+file_length h = 24 + 4 * h.cores + 4 * h.code + 8 * h.volatile + 8 * h.persistent
+
+abbrev pub parts_at : Header → List ℕ → Parts
+parts_at h bytes =
+    let entries = drop 24 bytes in
+    let code = drop (4 * h.cores) entries in
+    let volatile = drop (4 * h.code) code in
+    let persistent = drop (8 * h.volatile) volatile in
+    parts (u32s h.cores entries) (u32s h.code code) (u64s h.volatile volatile) (u64s h.persistent persistent)
+
+-- each fault, unless all is well with it
+abbrev pub has_header : List ℕ → Result (Unit {0}) ImageFault
+has_header bytes = if nat_lt (length bytes) 24 then Err (Short 24 (length bytes)) else Ok tt
+
+abbrev pub has_magic : List ℕ → Result (Unit {0}) ImageFault
+has_magic bytes = if bytes_eq (take 8 bytes) (codes "STRANDP1") then Ok tt else Err Magic
+
+abbrev pub within : Quantity → ℕ → Result (Unit {0}) ImageFault
+within what n = if is_within what n then Ok tt else Err (Limit what n)
+
+unfoldable pub within_limits : ℕ → ℕ → ℕ → ℕ → Result (Unit {0}) ImageFault
+within_limits cores code volatile persistent = do
+  a ← within Cores cores
+  b ← within Code code
+  c ← within Volatile volatile
+  within Persistent persistent
+
+abbrev pub has_length : ℕ → ℕ → Result (Unit {0}) ImageFault
+has_length need have = if nat_lt have need then Err (Short need have) else (if nat_lt need have then Err (Long need have) else Ok tt)
+
+-- the first entry that is no code word
+abbrev pub unless_stray : Parts → Option ℕ → Result Parts ImageFault
+unless_stray p None = Ok p
+unless_stray p (Some core) = Err (Entry core (slice_index p.entries core))
+
+unfoldable pub entries_exist : Parts → Result Parts ImageFault
+entries_exist p = unless_stray p (position (λ entry. nat_le (length p.code) entry) p.entries)
+
+unfoldable pub header_within : Header → Result Header ImageFault
+header_within h = do
+  a ← within_limits h.cores h.code h.volatile h.persistent
+  Ok h
+
+unfoldable pub header_of : List ℕ → Result Header ImageFault
+header_of bytes = do
+  a ← has_header bytes
+  b ← has_magic bytes
+  header_within (header_at bytes)
+
+-- what the bytes of a file say
+unfoldable pub image_of : List ℕ → Result Parts ImageFault
+image_of bytes = do
+  h ← header_of bytes
+  a ← has_length (file_length h) (length bytes)
+  entries_exist (parts_at h bytes)
+
+-- the image of four lists
+unfoldable pub made : Parts → Result Parts ImageFault
+made p = do
+  a ← within_limits (length p.entries) (length p.code) (length p.volatile) (length p.persistent)
+  entries_exist p
+
+-- What a function returned is what was read, unless memory ran out.
+abbrev pub Gives : {X : Type 0} → Result X ImageFault → Result X ImageFault → Type 0
+Gives (Err OutOfMemory) read = Unit {0}
+Gives result read = result ≡ read
+
+-- the one spelling of an image
+abbrev pub u32_bytes : List ℕ → List ℕ
+u32_bytes ns = flat_map (λ n. to_le_bytes w32 n) ns
+
+abbrev pub u64_bytes : List ℕ → List ℕ
+u64_bytes ns = flat_map (λ n. to_le_bytes w64 n) ns
+
+unfoldable pub image_bytes : Parts → List ℕ
+image_bytes p = codes "STRANDP1"
+    ++ (u32_bytes (length p.entries ∷ length p.code ∷ length p.volatile ∷ length p.persistent ∷ [])
+    ++ (u32_bytes p.entries ++ (u32_bytes p.code ++ (u64_bytes p.volatile ++ u64_bytes p.persistent))))

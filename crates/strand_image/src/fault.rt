@@ -1,0 +1,29 @@
+use thiserror::Error;
+
+/// What an image has a limited number of: cores, 32-bit code words, 64-bit volatile words and 64-bit
+/// persistent words.
+#[derive(Clone, Copy, Debug, PartialEq, Eq)]
+pub enum Quantity {
+    Cores,
+    Code,
+    Volatile,
+    Persistent,
+}
+
+/// Why bytes are no image file, or lists no image. Lengths are in bytes, and a core's entry is the
+/// number of a code word.
+#[derive(Clone, Copy, Debug, PartialEq, Eq, Error)]
+pub enum ImageFault {
+    #[error("the file does not begin with STRANDP1")]
+    Magic,
+    #[error("the file has {have} bytes and needs {need}")]
+    Short { need: u64, have: u64 },
+    #[error("the file has {have} bytes where {need} are its length")]
+    Long { need: u64, have: u64 },
+    #[error("{field:?} has {value}, which is outside its limits")]
+    Limit { field: Quantity, value: u64 },
+    #[error("core {core} begins at {value}, where no code word is")]
+    Entry { core: u32, value: u32 },
+    #[error("out of memory")]
+    OutOfMemory,
+}

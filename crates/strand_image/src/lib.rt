@@ -1,0 +1,12 @@
+//! The image file of a program: entries, code words and data, with one spelling for each image.
+//! The format is in docs/image.md.
+#![tactic(auto)]
+
+mod fault;
+mod image;
+mod numbers;
+mod reading;
+
+pub use fault::{ImageFault, Quantity};
+pub use image::Image;
+pub use reading::read_image;
