@@ -1,4 +1,3 @@
-pub mod Core
 pub mod FaultLines
 pub mod Numbered
 pub mod Report

@@ -6,12 +6,12 @@ use Rattle.std.specs.Fmt.{decimal}
 use lib.Chars.{codes}
 use Rattle.strand_base.specs.Text.{line_text}
 use Rattle.strand_base.specs.Hexadecimal.{hex16}
-use Rattle.strand_report.specs.declared.life.Life.{Life}
-use Rattle.strand_report.specs.declared.life.Life.TheVariants.{Running, Halted, Trapped}
-use Rattle.strand_report.specs.declared.life.Trap.{Trap}
-use Rattle.strand_report.specs.declared.life.Trap.TheVariants.{Fetch, Target, Illegal, Misaligned, Access, Call}
+use Rattle.strand_exec.specs.declared.life.Life.{Life}
+use Rattle.strand_exec.specs.declared.life.Life.TheVariants.{Running, Halted, Trapped}
+use Rattle.strand_exec.specs.declared.life.Trap.{Trap}
+use Rattle.strand_exec.specs.declared.life.Trap.TheVariants.{Fetch, Target, Illegal, Misaligned, Access, Call}
 use Rattle.strand_report.specs.declared.fault_lines.StepFault.{StepFault}
-use Rattle.strand_report.specs.Core.{Core}
+use Rattle.strand_exec.specs.Core.{Core}
 use Rattle.strand_report.specs.FaultLines.{step_fault}
 use Rattle.strand_report.specs.Numbered.{numbered}
 

@@ -5,10 +5,9 @@ ghost use Rattle.strand_base.specs.Text.{line_text};
 ghost use Rattle.strand_report.specs.Numbered.{numbered};
 ghost use Rattle.strand_report.specs.Report.{core_line, core_lines, reg_line, trap_words};
 
-use crate::core_state::CoreState;
-use crate::life::{Life, Trap};
 use itoa::Buffer;
 use strand_base::{OutOfMemory, hex_digits, put_line};
+use strand_exec::{CoreState, Life, Trap};
 
 fn put_untrapped(into: &mut Vec<u8>, core: usize, pc: u64, life: &str) -> Result<(), OutOfMemory>
     ensures { Puts result (line_text (codes "core" ∷ decimal core ∷ codes "pc" ∷ hex16 pc ∷ life.now ∷ [])) into.old.items into.new.items }

@@ -2,19 +2,15 @@
 //! (docs/report.md).
 #![tactic(auto)]
 
-mod core_state;
 mod cores;
 mod fault_lines;
-mod life;
 mod run;
 mod words;
 
-pub use core_state::CoreState;
 pub use fault_lines::{
     StepFault, write_file_fault, write_fill_fault, write_input_fault, write_read_fault,
     write_words_fault,
 };
-pub use life::{Life, Trap};
 pub use run::{RunView, write_run};
 
 #[cfg(test)]

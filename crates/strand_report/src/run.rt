@@ -2,12 +2,12 @@ ghost use Rattle.std.specs.Prelude.{◌≡◌, ◌≤◌, length};
 ghost use Rattle.strand_base.specs.Puts.{Puts};
 ghost use Rattle.strand_report.specs.Report.{stop_line, fault_lines, run_text};
 
-use crate::core_state::CoreState;
 use crate::cores::put_cores;
 use crate::fault_lines::{StepFault, put_step_fault};
 use crate::words::put_words;
 use itoa::Buffer;
 use strand_base::{OutOfMemory, put_line};
+use strand_exec::CoreState;
 
 /// What a run's report is made of: the steps that were made, the cores, the words that the modules
 /// hold, and where a module refused a store, that.

@@ -1,10 +1,11 @@
 ghost use Rattle.std.specs.Prelude.{◌≤◌, length};
 
 use crate::{
-    CoreState, Life, RunView, StepFault, Trap, write_file_fault, write_fill_fault,
-    write_input_fault, write_read_fault, write_run, write_words_fault,
+    RunView, StepFault, write_file_fault, write_fill_fault, write_input_fault, write_read_fault,
+    write_run, write_words_fault,
 };
 use std::test::Fail;
+use strand_exec::{CoreState, Life, Trap};
 
 fn at(pc: u64, life: Life) -> CoreState {
     CoreState {
