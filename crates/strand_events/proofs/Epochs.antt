@@ -61,7 +61,7 @@ in_strand : (mode : Mode) → List Event → ℕ → ℕ → Bool
 in_strand mode t i k = event_is is_barrier_or_join t k && same_strand mode t k i
 
 -- the barriers and joins of the strand are counted alike at both events
-in_strand_alike : (mode : Mode) (t : List Event) (i j n : ℕ) → same_strand mode t i j ≡ true → count_below n (λ k. event_is is_barrier_or_join t k && same_strand mode t k i) ≡ count_below n (λ k. event_is is_barrier_or_join t k && same_strand mode t k j)
+pub in_strand_alike : (mode : Mode) (t : List Event) (i j n : ℕ) → same_strand mode t i j ≡ true → count_below n (λ k. event_is is_barrier_or_join t k && same_strand mode t k i) ≡ count_below n (λ k. event_is is_barrier_or_join t k && same_strand mode t k j)
 in_strand_alike mode t i j n h = count_agree n (λ k. event_is is_barrier_or_join t k && same_strand mode t k i) (λ k. event_is is_barrier_or_join t k && same_strand mode t k j) (λ k lt. ap (λ x. event_is is_barrier_or_join t k && x) (strand_alike mode t k i j h))
 
 strand_epochs_rise : (mode : Mode) (t : List Event) (i j : ℕ) → same_strand mode t i j ≡ true → i ≤ j → count_below i (λ k. event_is is_barrier_or_join t k && same_strand mode t k i) ≤ count_below j (λ k. event_is is_barrier_or_join t k && same_strand mode t k j)

@@ -2,6 +2,7 @@ pub mod Prefix
 pub mod Epochs
 pub mod Chain
 pub mod Images
+pub mod Consequences
 pub mod Marking
 pub mod Kept
 mod Rows

@@ -2,10 +2,12 @@
 #![tactic(auto)]
 
 mod event;
+mod laws;
 mod marks;
 mod trace;
 
 pub use event::Event;
+pub use laws::persist_order_laws;
 pub use trace::Trace;
 
 #[cfg(test)]

@@ -111,7 +111,8 @@ impl Trace {
     {
         let core = core_of(e) as usize;
         let marks = self.latest[core];
-        note_persist(&mut self.persists, e, self.events.len() as u32);
+        let number = self.events.len() as u32;
+        note_persist(&mut self.persists, e, number);
         self.marks.push_reserved(marks);
         self.latest[core] = marks_after(marks, e);
         self.events.push_reserved(e);

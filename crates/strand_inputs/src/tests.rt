@@ -44,10 +44,10 @@ fn a_machine_file_is_refused_at_its_first_fault(rt: HostRuntime) {
 #[test]
 fn a_fault_is_printed(rt: HostRuntime) -> Result<(), Fail> {
     let fault = InputFault::Missing { key: Key::Ways };
-    assert_eq!(rt; fault.to_string(rt.alloc())?, "ways is missing");
+    assert_eq!(rt; fault.to_string(rt.alloc())?.as_str(), "ways is missing");
     let fault = InputFault::Limit { line: 3, value: 65 };
     assert_eq!(rt;
-        fault.to_string(rt.alloc())?,
+        fault.to_string(rt.alloc())?.as_str(),
         "line 3: 65 is outside its limits"
     );
     Ok(())

@@ -16,7 +16,7 @@ marks_after-requires c =
 pub invariant_of-self : goal.invariant_of-self
 invariant_of-self c =
     let lt : length c.self.inside.events.items < c.self.inside.room = omega (arith, c.requires.room, ap (λ s. length s.events) c.self.view_is, ap (λ s. s.room) c.self.view_is) in
-    let number : c.len.result ≡ length c.self.inside.events.items = c.len.ensures ∙ c.self.inside.events.ok.0 in (
+    let number : c.len-number.result ≡ length c.self.inside.events.items = c.len-number.ensures ∙ c.self.inside.events.ok.0 in (
       rw (c.push_reserved-2.ensures.items, c.note_persist.ensures.items, c.push_reserved.ensures.items, number, c.core_of-core.ensures) (kept_next c.self.inside.events.items c.self.inside.room c.self.inside.persists.items c.self.inside.marks.items c.self.inside.latest c.args.e _ c.marks_after.result c.self.invariant.0 lt (c.requires.core, c.requires.persist) refl (rw c.core_of-core.ensures at c.marks_after.ensures)),
       rw c.push_reserved-2.ensures.capacity c.self.invariant.1,
       rw c.note_persist.ensures.capacity c.self.invariant.2,
