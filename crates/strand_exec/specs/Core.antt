@@ -31,8 +31,8 @@ abbrev pub next_pc : Core → ℕ
 next_pc core = (core.pc + 4) % 2 ^ 64
 
 -- the core at another place
-abbrev pub at : ℕ → Core → Core
-at pc core = record core { pc = pc }
+abbrev pub moved_to : ℕ → Core → Core
+moved_to pc core = record core { pc = pc }
 
 -- a core that a trap has ended, as it was before the instruction
 abbrev pub trapped : Trap → Core → Core

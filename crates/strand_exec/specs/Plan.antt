@@ -3,14 +3,15 @@ use Rattle.std.specs.Prelude.{◌≡◌, ℕ, ◌+◌, ◌-◌, ◌*◌, ◌/◌
 use Rattle.strand_isa.specs.declared.instr.Instr.{Instr}
 use Rattle.strand_isa.specs.declared.instr.StoreOp.{StoreOp}
 use Rattle.strand_isa.specs.Decode.{instr_of}
-use Rattle.strand_exec.specs.declared.life.Life.TheVariants.{Halted}
+use Rattle.strand_exec.specs.declared.life.Life.{Life}
+use Rattle.strand_exec.specs.declared.life.Life.TheVariants.{Running, Halted, Trapped}
 use Rattle.strand_exec.specs.declared.life.Trap.TheVariants.{Fetch, Target, Illegal, Misaligned, Access, Call as CallTrap}
 use Rattle.strand_exec.specs.declared.planned.Plan.{Plan}
 use Rattle.strand_exec.specs.declared.planned.Plan.TheVariants.{Plain, Load, Store, Barrier as BarrierPlan, NewStrand, Join as JoinPlan, Out as OutPlan, Halt as HaltPlan, Trap as TrapPlan}
 use Rattle.strand_exec.specs.declared.effect.Effect.{Effect}
 use Rattle.strand_exec.specs.declared.effect.Effect.TheVariants.{Write, Jump, Goto, LoadFrom, StoreTo, Barrier, BeginStrand, Join, Call, Out, Halt, Traps}
 use Rattle.strand_exec.specs.Arith.{load_bytes, load_value, merged, store_bytes, with_bits}
-use Rattle.strand_exec.specs.Core.{Core, Extents, at, next_pc, trapped, with_reg}
+use Rattle.strand_exec.specs.Core.{Core, Extents, moved_to, next_pc, trapped, with_reg}
 use Rattle.strand_exec.specs.Table.{row}
 
 -- the code word at a pc: the code begins at 0x10000000, four bytes a word
@@ -80,14 +81,14 @@ asked _ = Plain
 
 -- the core after an effect, where `loaded` is the word at the access of a load
 abbrev pub after : Core → ℕ → Effect → Core
-after core loaded (Write rd value) = at (next_pc core) (with_reg rd value core)
-after core loaded (Jump rd link target) = at target (with_reg rd link core)
-after core loaded (Goto target) = at target core
+after core loaded (Write rd value) = moved_to (next_pc core) (with_reg rd value core)
+after core loaded (Jump rd link target) = moved_to target (with_reg rd link core)
+after core loaded (Goto target) = moved_to target core
 after core loaded (LoadFrom op rd address) =
-    at (next_pc core) (with_reg rd (load_value op loaded (address % 8)) core)
+    moved_to (next_pc core) (with_reg rd (load_value op loaded (address % 8)) core)
 after core loaded Halt = record core { life = Halted }
 after core loaded (Traps trap) = trapped trap core
-after core loaded _ = at (next_pc core) core
+after core loaded _ = moved_to (next_pc core) core
 
 -- what the next instruction of a running core asks of the world
 unfoldable pub plan_of : Core → List ℕ → Extents → Plan
@@ -118,15 +119,8 @@ IsStored (StoreTo op address value) (Store word mask bits) =
     (old : ℕ) → old < 2 ^ 64 → merged old mask bits ≡ with_bits (8 * store_bytes op) (8 * (address % 8)) value old
 IsStored _ _ = Unit {0}
 
--- the register that an effect writes is one of the 32
-abbrev pub HasRegister : Effect → Type 0
-HasRegister (Write rd value) = rd < 32
-HasRegister (Jump rd link target) = rd < 32
-HasRegister (LoadFrom op rd address) = rd < 32
-HasRegister _ = Unit {0}
-
--- the access of an effect is aligned to its size and inside the data words
-abbrev pub IsAligned : Extents → Effect → Type 0
-IsAligned extents (LoadFrom op rd address) = (address % load_bytes op ≡ 0) × IsData extents address
-IsAligned extents (StoreTo op address value) = (address % store_bytes op ≡ 0) × IsData extents address
-IsAligned extents _ = Unit {0}
+-- whether a core runs on after what its instruction asked
+abbrev pub life_after : Plan → Life
+life_after HaltPlan = Halted
+life_after (TrapPlan trap) = Trapped trap
+life_after _ = Running

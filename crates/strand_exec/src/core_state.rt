@@ -33,7 +33,8 @@ impl CoreState {
     #[tactic(auto, unfolding(crate::specs::Core::fresh))]
     pub fn new(entry: u32) -> CoreState
         requires { entry < 65536 }
-        ensures { result ≡ fresh entry }
+        ensures state { result ≡ fresh entry }
+        ensures running { result.life ≡ Life.Running }
     {
         CoreState {
             pc: 0x1000_0000 + 4 * u64::from(entry),

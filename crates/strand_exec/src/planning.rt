@@ -1,5 +1,6 @@
 ghost use Rattle.std.specs.Prelude.{◌≡◌, ◌<◌};
-ghost use Rattle.strand_exec.specs.Plan.{HasRegister, IsAligned, IsPlaced, IsStored, accessing, effect_of, fetched, jumping, plan_of, trapping};
+ghost use Rattle.strand_exec.specs.Effects.{HasRegister, IsAligned};
+ghost use Rattle.strand_exec.specs.Plan.{IsPlaced, IsStored, accessing, effect_of, fetched, jumping, plan_of, trapping};
 
 use crate::accesses::{is_data, load_bytes, store_bits, store_bytes, store_mask};
 use crate::core_state::CoreState;
