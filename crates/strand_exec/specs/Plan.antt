@@ -11,21 +11,21 @@ use Rattle.strand_exec.specs.declared.planned.Plan.TheVariants.{Plain, Load, Sto
 use Rattle.strand_exec.specs.declared.effect.Effect.{Effect}
 use Rattle.strand_exec.specs.declared.effect.Effect.TheVariants.{Write, Jump, Goto, LoadFrom, StoreTo, Barrier, BeginStrand, Join, Call, Out, Halt, Traps}
 use Rattle.strand_exec.specs.Arith.{load_bytes, load_value, merged, store_bytes, with_bits}
-use Rattle.strand_exec.specs.Core.{Core, Extents, moved_to, next_pc, trapped, with_reg}
+use Rattle.strand_exec.specs.Core.{Core, Extents, code_base, moved_to, next_pc, persistent_base, trapped, volatile_base, with_reg}
 use Rattle.strand_exec.specs.Table.{row}
 
--- the code word at a pc: the code begins at 0x10000000, four bytes a word
+-- the code word at a pc
 abbrev pub fetched : List ℕ → ℕ → Option ℕ
 fetched code pc =
-    if nat_le 0x10000000 pc && (pc % 4 == 0) then slice_get code ((pc - 0x10000000) / 4) else None
+    if nat_le code_base pc && (pc % 4 == 0) then slice_get code ((pc - code_base) / 4) else None
 
 -- an address inside `count` words of eight bytes from `base` on
 abbrev pub is_in : ℕ → ℕ → ℕ → Bool
 is_in base count address = nat_le base address && nat_lt address (base + 8 * count)
 
--- an address inside the volatile words, from 0x20000000 on, or the persistent words, from 0x40000000 on
+-- an address inside the volatile words or the persistent words
 abbrev pub is_data : Extents → ℕ → Bool
-is_data extents address = is_in 0x20000000 extents.volatile address || is_in 0x40000000 extents.persistent address
+is_data extents address = is_in volatile_base extents.volatile address || is_in persistent_base extents.persistent address
 
 -- an access of `size` bytes: first its alignment is tried, then its place
 abbrev pub accessing : Extents → ℕ → ℕ → Effect → Effect
@@ -101,7 +101,7 @@ finished core code extents loaded = after core loaded (effect_of core code exten
 -- an address inside the volatile words or the persistent words
 abbrev pub IsData : Extents → ℕ → Type 0
 IsData extents address =
-    ((0x20000000 ≤ address) × (address < 0x20000000 + 8 * extents.volatile)) ⊎ ((0x40000000 ≤ address) × (address < 0x40000000 + 8 * extents.persistent))
+    ((volatile_base ≤ address) × (address < volatile_base + 8 * extents.volatile)) ⊎ ((persistent_base ≤ address) × (address < persistent_base + 8 * extents.persistent))
 
 -- the address of a data word
 abbrev pub IsWord : Extents → ℕ → Type 0
