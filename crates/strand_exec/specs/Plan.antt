@@ -3,8 +3,7 @@ use Rattle.std.specs.Prelude.{◌≡◌, ℕ, ◌+◌, ◌-◌, ◌*◌, ◌/◌
 use Rattle.strand_isa.specs.declared.instr.Instr.{Instr}
 use Rattle.strand_isa.specs.declared.instr.StoreOp.{StoreOp}
 use Rattle.strand_isa.specs.Decode.{instr_of}
-use Rattle.strand_exec.specs.declared.life.Life.{Life}
-use Rattle.strand_exec.specs.declared.life.Life.TheVariants.{Running, Halted, Trapped}
+use Rattle.strand_exec.specs.declared.life.Life.TheVariants.{Halted}
 use Rattle.strand_exec.specs.declared.life.Trap.TheVariants.{Fetch, Target, Illegal, Misaligned, Access, Call as CallTrap}
 use Rattle.strand_exec.specs.declared.planned.Plan.{Plan}
 use Rattle.strand_exec.specs.declared.planned.Plan.TheVariants.{Plain, Load, Store, Barrier as BarrierPlan, NewStrand, Join as JoinPlan, Out as OutPlan, Halt as HaltPlan, Trap as TrapPlan}
@@ -118,9 +117,3 @@ abbrev pub IsStored : Effect → Plan → Type 0
 IsStored (StoreTo op address value) (Store word mask bits) =
     (old : ℕ) → old < 2 ^ 64 → merged old mask bits ≡ with_bits (8 * store_bytes op) (8 * (address % 8)) value old
 IsStored _ _ = Unit {0}
-
--- whether a core runs on after what its instruction asked
-abbrev pub life_after : Plan → Life
-life_after HaltPlan = Halted
-life_after (TrapPlan trap) = Trapped trap
-life_after _ = Running

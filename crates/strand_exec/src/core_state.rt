@@ -34,8 +34,7 @@ impl CoreState {
     #[tactic(auto, unfolding(crate::specs::Core::fresh))]
     pub fn new(entry: u32) -> CoreState
         requires { entry < 65536 }
-        ensures state { result ≡ fresh entry }
-        ensures running { result.life ≡ Life.Running }
+        ensures { result ≡ fresh entry }
     {
         CoreState {
             pc: CODE_BASE + 4 * u64::from(entry),

@@ -1,6 +1,6 @@
 ghost use Rattle.std.specs.Prelude.{◌≡◌, ◌<◌};
 ghost use Rattle.strand_exec.specs.Core.{moved_to, with_reg};
-ghost use Rattle.strand_exec.specs.Plan.{finished, life_after, plan_of};
+ghost use Rattle.strand_exec.specs.Plan.{finished};
 
 use crate::accesses::load_value;
 use crate::core_state::CoreState;
@@ -21,11 +21,10 @@ fn advance(core: &mut CoreState, rd: u8, value: u64, pc: u64)
 
 /// Does the next instruction of a running core, as far as it changes the core. `loaded` is the word at the access
 /// of a load, and isn't used else. Takes no memory and constant time.
-#[tactic(auto, unfolding(crate::specs::Plan::finished, crate::specs::Plan::plan_of))]
+#[tactic(auto, unfolding(crate::specs::Plan::finished))]
 pub fn finish(core: &mut CoreState, code: &[u32], sizes: Sizes, loaded: u64)
     requires { core.old.life ≡ Life.Running }
-    ensures table { core.new ≡ finished core.old code.now sizes loaded }
-    ensures life { core.new.life ≡ life_after (plan_of core.old code.now sizes) }
+    ensures { core.new ≡ finished core.old code.now sizes loaded }
 {
     let next = next_pc(core);
     match effect(core, code, sizes) {
