@@ -1,5 +1,6 @@
 -- What the operations of RV64I compute on register values, which are numbers below 2 ^ 64, as the manual says it.
-use Rattle.std.specs.Prelude.{ℕ, ◌+◌, ◌-◌, ◌*◌, ◌/◌, ◌%◌, ◌^◌, ℤ, pos, negsuc, nat_lt, nat_eq, if◌then◌else◌, Bool, not, bit_and, bit_or, bit_xor}
+use Rattle.std.specs.Prelude.{ℕ, ◌+◌, ◌-◌, ◌*◌, ◌/◌, ◌%◌, ◌^◌, ℤ, pos, negsuc, int_lt, nat_lt, nat_eq, if◌then◌else◌, Bool, not, bit_and, bit_or, bit_xor}
+use Rattle.strand_isa.specs.Decode.{signed_of}
 use Rattle.strand_isa.specs.declared.instr.UpperOp.{UpperOp}
 use Rattle.strand_isa.specs.declared.instr.UpperOp.TheVariants.{Lui, Auipc}
 use Rattle.strand_isa.specs.declared.instr.BranchOp.{BranchOp}
@@ -25,9 +26,9 @@ abbrev pub extended : ℕ → ℕ → ℕ
 extended width value =
     if nat_lt (value % 2 ^ width) (2 ^ (width - 1)) then value % 2 ^ width else value % 2 ^ width + 2 ^ 64 - 2 ^ width
 
--- the signed order: moving both by half of the range makes it the unsigned one
+-- the order of two values read as signed numbers
 abbrev pub signed_less : ℕ → ℕ → Bool
-signed_less a b = nat_lt ((a + 2 ^ 63) % 2 ^ 64) ((b + 2 ^ 63) % 2 ^ 64)
+signed_less a b = int_lt (signed_of (2 ^ 63) a) (signed_of (2 ^ 63) b)
 
 -- a right shift of a value of `width` bits that keeps its sign
 abbrev pub shifted_signed : ℕ → ℕ → ℕ → ℕ

@@ -2,4 +2,5 @@ pub mod Arith
 pub mod Core
 pub mod Table
 pub mod Plan
+pub mod Effects
 pub mod Memory

@@ -1,6 +1,6 @@
 -- A flat memory of volatile and persistent words, and what one read and one write do.
 use Rattle.std.specs.Prelude.{ℕ, ◌-◌, ◌/◌, nat_lt, List, length, slice_index, slice_set, if◌then◌else◌}
-use Rattle.strand_exec.specs.Core.{Extents}
+use Rattle.strand_exec.specs.Core.{Extents, persistent_base, volatile_base}
 
 pub record Memory : Type 0 where
   pub volatile : List ℕ
@@ -9,12 +9,12 @@ pub record Memory : Type 0 where
 abbrev pub extents_of : Memory → Extents
 extents_of memory = record { volatile = length memory.volatile; persistent = length memory.persistent }
 
--- the word at an address: the volatile words begin at 0x20000000, the persistent words at 0x40000000
+-- the word at an address of one of the two regions
 unfoldable pub word_in : Memory → ℕ → ℕ
 word_in memory word =
-    if nat_lt word 0x40000000 then slice_index memory.volatile ((word - 0x20000000) / 8) else slice_index memory.persistent ((word - 0x40000000) / 8)
+    if nat_lt word persistent_base then slice_index memory.volatile ((word - volatile_base) / 8) else slice_index memory.persistent ((word - persistent_base) / 8)
 
 -- the memory with another value in one word
 unfoldable pub with_word : Memory → ℕ → ℕ → Memory
 with_word memory word value =
-    if nat_lt word 0x40000000 then record memory { volatile = slice_set memory.volatile ((word - 0x20000000) / 8) value } else record memory { persistent = slice_set memory.persistent ((word - 0x40000000) / 8) value }
+    if nat_lt word persistent_base then record memory { volatile = slice_set memory.volatile ((word - volatile_base) / 8) value } else record memory { persistent = slice_set memory.persistent ((word - persistent_base) / 8) value }

@@ -10,21 +10,21 @@ use Rattle.strand_exec.specs.declared.planned.Plan.TheVariants.{Plain, Load, Sto
 use Rattle.strand_exec.specs.declared.effect.Effect.{Effect}
 use Rattle.strand_exec.specs.declared.effect.Effect.TheVariants.{Write, Jump, Goto, LoadFrom, StoreTo, Barrier, BeginStrand, Join, Call, Out, Halt, Traps}
 use Rattle.strand_exec.specs.Arith.{load_bytes, load_value, merged, store_bytes, with_bits}
-use Rattle.strand_exec.specs.Core.{Core, Extents, at, next_pc, trapped, with_reg}
+use Rattle.strand_exec.specs.Core.{Core, Extents, code_base, moved_to, next_pc, persistent_base, trapped, volatile_base, with_reg}
 use Rattle.strand_exec.specs.Table.{row}
 
--- the code word at a pc: the code begins at 0x10000000, four bytes a word
+-- the code word at a pc
 abbrev pub fetched : List ℕ → ℕ → Option ℕ
 fetched code pc =
-    if nat_le 0x10000000 pc && (pc % 4 == 0) then slice_get code ((pc - 0x10000000) / 4) else None
+    if nat_le code_base pc && (pc % 4 == 0) then slice_get code ((pc - code_base) / 4) else None
 
 -- an address inside `count` words of eight bytes from `base` on
 abbrev pub is_in : ℕ → ℕ → ℕ → Bool
 is_in base count address = nat_le base address && nat_lt address (base + 8 * count)
 
--- an address inside the volatile words, from 0x20000000 on, or the persistent words, from 0x40000000 on
+-- an address inside the volatile words or the persistent words
 abbrev pub is_data : Extents → ℕ → Bool
-is_data extents address = is_in 0x20000000 extents.volatile address || is_in 0x40000000 extents.persistent address
+is_data extents address = is_in volatile_base extents.volatile address || is_in persistent_base extents.persistent address
 
 -- an access of `size` bytes: first its alignment is tried, then its place
 abbrev pub accessing : Extents → ℕ → ℕ → Effect → Effect
@@ -80,14 +80,14 @@ asked _ = Plain
 
 -- the core after an effect, where `loaded` is the word at the access of a load
 abbrev pub after : Core → ℕ → Effect → Core
-after core loaded (Write rd value) = at (next_pc core) (with_reg rd value core)
-after core loaded (Jump rd link target) = at target (with_reg rd link core)
-after core loaded (Goto target) = at target core
+after core loaded (Write rd value) = moved_to (next_pc core) (with_reg rd value core)
+after core loaded (Jump rd link target) = moved_to target (with_reg rd link core)
+after core loaded (Goto target) = moved_to target core
 after core loaded (LoadFrom op rd address) =
-    at (next_pc core) (with_reg rd (load_value op loaded (address % 8)) core)
+    moved_to (next_pc core) (with_reg rd (load_value op loaded (address % 8)) core)
 after core loaded Halt = record core { life = Halted }
 after core loaded (Traps trap) = trapped trap core
-after core loaded _ = at (next_pc core) core
+after core loaded _ = moved_to (next_pc core) core
 
 -- what the next instruction of a running core asks of the world
 unfoldable pub plan_of : Core → List ℕ → Extents → Plan
@@ -100,7 +100,7 @@ finished core code extents loaded = after core loaded (effect_of core code exten
 -- an address inside the volatile words or the persistent words
 abbrev pub IsData : Extents → ℕ → Type 0
 IsData extents address =
-    ((0x20000000 ≤ address) × (address < 0x20000000 + 8 * extents.volatile)) ⊎ ((0x40000000 ≤ address) × (address < 0x40000000 + 8 * extents.persistent))
+    ((volatile_base ≤ address) × (address < volatile_base + 8 * extents.volatile)) ⊎ ((persistent_base ≤ address) × (address < persistent_base + 8 * extents.persistent))
 
 -- the address of a data word
 abbrev pub IsWord : Extents → ℕ → Type 0
@@ -117,16 +117,3 @@ abbrev pub IsStored : Effect → Plan → Type 0
 IsStored (StoreTo op address value) (Store word mask bits) =
     (old : ℕ) → old < 2 ^ 64 → merged old mask bits ≡ with_bits (8 * store_bytes op) (8 * (address % 8)) value old
 IsStored _ _ = Unit {0}
-
--- the register that an effect writes is one of the 32
-abbrev pub HasRegister : Effect → Type 0
-HasRegister (Write rd value) = rd < 32
-HasRegister (Jump rd link target) = rd < 32
-HasRegister (LoadFrom op rd address) = rd < 32
-HasRegister _ = Unit {0}
-
--- the access of an effect is aligned to its size and inside the data words
-abbrev pub IsAligned : Extents → Effect → Type 0
-IsAligned extents (LoadFrom op rd address) = (address % load_bytes op ≡ 0) × IsData extents address
-IsAligned extents (StoreTo op address value) = (address % store_bytes op ≡ 0) × IsData extents address
-IsAligned extents _ = Unit {0}

@@ -3,6 +3,7 @@ ghost use Rattle.strand_exec.specs.Arith.{load_bytes, load_value, merged, store_
 ghost use Rattle.strand_exec.specs.Plan.{IsData, is_data, store_bits, store_mask};
 
 use crate::arithmetic::{byte, half, word};
+use crate::regions::{PERSISTENT_BASE, VOLATILE_BASE};
 use crate::sizes::Sizes;
 use strand_isa::{LoadOp, StoreOp};
 
@@ -40,10 +41,10 @@ pub(crate) fn is_data(sizes: Sizes, address: u64) -> bool
     ensures value { result ≡ is_data sizes address }
     ensures inside { IsTrue result → IsData sizes address }
 {
-    let volatile = 0x2000_0000 + 8 * u64::from(sizes.volatile);
-    let persistent = 0x4000_0000 + 8 * u64::from(sizes.persistent);
-    (0x2000_0000 <= address && address < volatile)
-        || (0x4000_0000 <= address && address < persistent)
+    let volatile = VOLATILE_BASE + 8 * u64::from(sizes.volatile);
+    let persistent = PERSISTENT_BASE + 8 * u64::from(sizes.persistent);
+    (VOLATILE_BASE <= address && address < volatile)
+        || (PERSISTENT_BASE <= address && address < persistent)
 }
 
 /// What a load gives, from the word that holds its bytes.

@@ -2,6 +2,7 @@ ghost use Rattle.std.specs.Prelude.{◌≡◌, ◌<◌};
 ghost use Rattle.strand_exec.specs.Core.{fresh, reg, with_reg};
 
 use crate::life::Life;
+use crate::regions::CODE_BASE;
 use std::marker::Model;
 
 /// A core: its pc, its registers x0 to x31, of which x0 is always 0, and whether it runs.
@@ -36,7 +37,7 @@ impl CoreState {
         ensures { result ≡ fresh entry }
     {
         CoreState {
-            pc: 0x1000_0000 + 4 * u64::from(entry),
+            pc: CODE_BASE + 4 * u64::from(entry),
             regs: [0; 32],
             life: Life::Running,
         }

@@ -1,5 +1,5 @@
 ghost use Rattle.std.specs.Prelude.{◌≡◌, ◌<◌};
-ghost use Rattle.strand_exec.specs.Core.{at, with_reg};
+ghost use Rattle.strand_exec.specs.Core.{moved_to, with_reg};
 ghost use Rattle.strand_exec.specs.Plan.{finished};
 
 use crate::accesses::load_value;
@@ -13,7 +13,7 @@ use crate::sizes::Sizes;
 /// Gives a register a value and goes to a place.
 fn advance(core: &mut CoreState, rd: u8, value: u64, pc: u64)
     requires { rd < 32 }
-    ensures { core.new ≡ at pc (with_reg rd value core.old) }
+    ensures { core.new ≡ moved_to pc (with_reg rd value core.old) }
 {
     core.set_register(rd, value);
     core.pc = pc;

@@ -2,12 +2,13 @@ ghost use Rattle.std.specs.Prelude.{◌≡◌, ◌≢◌, ◌≤◌, ℕ, length
 ghost use Rattle.strand_exec.specs.Plan.{IsWord};
 ghost use Rattle.strand_exec.specs.Memory.{extents_of, with_word, word_in};
 
+use crate::regions::{PERSISTENT_BASE, VOLATILE_BASE};
 use std::alloc::Global;
 use std::marker::Model;
 use strand_base::OutOfMemory;
 
-/// A flat memory of at most 1,048,576 volatile and 1,048,576 persistent words of eight bytes. The volatile words
-/// have the addresses from 0x20000000 on, the persistent words those from 0x40000000 on.
+/// A flat memory of at most 1,048,576 volatile and 1,048,576 persistent words of eight bytes, which are
+/// named by their addresses.
 #[derive(Drop)]
 pub struct FlatMemory {
     /// The volatile words.
@@ -50,10 +51,10 @@ impl FlatMemory {
         requires { IsWord (extents_of self.now) word }
         ensures { result ≡ word_in self.now word }
     {
-        if word < 0x4000_0000 {
-            self.volatile[((word - 0x2000_0000) / 8) as usize]
+        if word < PERSISTENT_BASE {
+            self.volatile[((word - VOLATILE_BASE) / 8) as usize]
         } else {
-            self.persistent[((word - 0x4000_0000) / 8) as usize]
+            self.persistent[((word - PERSISTENT_BASE) / 8) as usize]
         }
     }
 
@@ -66,10 +67,10 @@ impl FlatMemory {
         ensures others { (other : ℕ) → IsWord (extents_of self.old) other → other ≢ word → word_in self.new other ≡ word_in self.old other }
         ensures extents { extents_of self.new ≡ extents_of self.old }
     {
-        if word < 0x4000_0000 {
-            self.volatile[((word - 0x2000_0000) / 8) as usize] = value;
+        if word < PERSISTENT_BASE {
+            self.volatile[((word - VOLATILE_BASE) / 8) as usize] = value;
         } else {
-            self.persistent[((word - 0x4000_0000) / 8) as usize] = value;
+            self.persistent[((word - PERSISTENT_BASE) / 8) as usize] = value;
         }
     }
 }

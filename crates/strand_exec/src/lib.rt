@@ -10,6 +10,7 @@ mod flat_memory;
 mod life;
 mod planned;
 mod planning;
+mod regions;
 mod rows;
 mod sizes;
 
@@ -20,6 +21,7 @@ pub use flat_memory::FlatMemory;
 pub use life::{Life, Trap};
 pub use planned::Plan;
 pub use planning::plan;
+pub use regions::{CODE_BASE, PERSISTENT_BASE, VOLATILE_BASE};
 pub use sizes::Sizes;
 
 #[cfg(test)]

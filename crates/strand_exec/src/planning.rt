@@ -1,11 +1,13 @@
 ghost use Rattle.std.specs.Prelude.{◌≡◌, ◌<◌};
-ghost use Rattle.strand_exec.specs.Plan.{HasRegister, IsAligned, IsPlaced, IsStored, accessing, effect_of, fetched, jumping, plan_of, trapping};
+ghost use Rattle.strand_exec.specs.Effects.{HasRegister, IsAligned};
+ghost use Rattle.strand_exec.specs.Plan.{IsPlaced, IsStored, accessing, effect_of, fetched, jumping, plan_of, trapping};
 
 use crate::accesses::{is_data, load_bytes, store_bits, store_bytes, store_mask};
 use crate::core_state::CoreState;
 use crate::effect::Effect;
 use crate::life::{Life, Trap};
 use crate::planned::Plan;
+use crate::regions::CODE_BASE;
 use crate::rows::row;
 use crate::sizes::Sizes;
 use strand_isa::decode;
@@ -14,10 +16,10 @@ use strand_isa::decode;
 fn fetched(code: &[u32], pc: u64) -> Option<u32>
     ensures { result ≡ fetched code.now pc }
 {
-    if pc < 0x1000_0000 || pc % 4 != 0 {
+    if pc < CODE_BASE || pc % 4 != 0 {
         return None;
     }
-    code.get(((pc - 0x1000_0000) / 4) as usize).copied()
+    code.get(((pc - CODE_BASE) / 4) as usize).copied()
 }
 
 /// A jump to a place, or its trap.
@@ -97,8 +99,7 @@ pub(crate) fn effect(core: &CoreState, code: &[u32], sizes: Sizes) -> Effect
 
 /// What the next instruction of a running core asks of the world. Takes no memory and constant time.
 ///
-/// The code words have the addresses from 0x10000000 on. The traps are tried in the order of `Trap`: Fetch,
-/// Illegal, Target, Misaligned, Access, Call.
+/// The traps are tried in this order: Fetch, Illegal, Target, Misaligned, Access, Call.
 #[tactic(auto, unfolding(crate::specs::Plan::plan_of))]
 pub fn plan(core: &CoreState, code: &[u32], sizes: Sizes) -> Plan
     requires { core.now.life ≡ Life.Running }

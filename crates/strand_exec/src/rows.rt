@@ -2,7 +2,7 @@ ghost use Rattle.std.specs.Prelude.{◌≡◌, ◌<◌};
 ghost use Rattle.strand_isa.specs.Word.{IsValid};
 ghost use Rattle.strand_exec.specs.Core.{next_pc};
 ghost use Rattle.strand_exec.specs.Table.{row};
-ghost use Rattle.strand_exec.specs.Plan.{HasRegister};
+ghost use Rattle.strand_exec.specs.Effects.{HasRegister};
 
 use crate::arithmetic::{imm_value, is_taken, plus, reg_value, residue, shift_value, upper_value};
 use crate::core_state::CoreState;
