@@ -36,7 +36,7 @@ files_in_memory files = record {
   last_failed = option_map string_bytes files.last_failed;
 }
 
--- The next fetch of this name is to fail: its number was named, or nothing stands under the name.
+-- The next fetch of this name is to fail: its number was named, or no file has the name.
 abbrev pub FailsAt : MemoryFiles → List ℕ → Type 0
 FailsAt files name = FailsNext (plan_of files) ⊎ (held_by files name ≡ None)
 

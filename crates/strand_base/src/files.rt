@@ -28,15 +28,17 @@ impl From<AllocError> for FetchFault {
 /// Files that are read whole, by name (docs/outside.md).
 ///
 /// `seen` is what contracts know of them: the bytes under each name, where the object tells them, the
-/// count of faults, which never falls, the number of fetches, and the name of the last fetch that failed.
+/// count of faults, which never falls, the number of fetches, and the name of the last fetch that
+/// failed.
 pub trait Files {
     ghost seen: { Self → FilesSeen };
 
     /// Reads the whole file of that name into `into`, which is empty; `limit` is in bytes.
     ///
     /// Ok: `into` holds the whole file, at most `limit` bytes. `TooLong`: its first `limit + 1` bytes.
-    /// `Failed`, only where the count of faults has risen, and `OutOfMemory`: some first bytes of it, which
-    /// are of no use. The files stay as they were, and the number of fetches rises by one or stays at 2^64 - 1.
+    /// `Failed`, only where the count of faults has risen, and `OutOfMemory`: some first bytes of it,
+    /// which are of no use. The files stay as they were, and the number of fetches rises by one or stays
+    /// at 2^64 - 1.
     fn fetch(&mut self, name: &str, limit: usize, into: &mut Vec<u8>) -> Result<(), FetchFault>
         requires empty { into.old.items ≡ [] }
         requires limit { limit < usize.MAX }

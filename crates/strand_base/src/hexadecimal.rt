@@ -1,4 +1,4 @@
-ghost use Rattle.std.specs.Prelude.{◌≡◌, ◌<◌, position, not};
+ghost use Rattle.std.specs.Prelude.{◌≡◌, ◌<◌, Ok, position, not};
 ghost use Rattle.std.specs.Char.{is_ascii_hexdigit};
 ghost use Rattle.strand_base.specs.Hexadecimal.{hex_digit, hex16};
 ghost use Rattle.strand_base.specs.Number.{hexadecimal_of};
@@ -44,9 +44,10 @@ pub fn hex_digits(n: u64) -> [u8; 16]
 }
 
 /// Appends the sixteen lower-case hexadecimal digits of a number. Where memory ran out, a front of
-/// them is appended.
+/// them is appended. `read_hex` gives the number back.
 pub fn print_hex16(n: u64, into: &mut Vec<u8>) -> Result<(), OutOfMemory>
-    ensures { Puts result (hex16 n) into.old.items into.new.items }
+    ensures puts { Puts result (hex16 n) into.old.items into.new.items }
+    ensures again { hexadecimal_of (hex16 n) ≡ Ok n }
 {
     put(into, &hex_digits(n))
 }

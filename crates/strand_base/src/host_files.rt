@@ -18,7 +18,8 @@ pub struct HostFiles<'a, R> {
 impl<'a, R: rt::Files> HostFiles<'a, R> {
     /// No fetch was made. It takes no memory.
     pub fn new(rt: &'a R) -> HostFiles<'a, R>
-        ensures { ⟦<HostFiles<'a, R> as Files>⟧.seen result ≡ record { told = None; faults = 0; fetches = 0; last_failed = None } }
+        ensures { ⟦<HostFiles<'a, R> as Files>⟧.seen result
+            ≡ record { told = None; faults = 0; fetches = 0; last_failed = None } }
     {
         HostFiles {
             rt,
@@ -29,7 +30,12 @@ impl<'a, R: rt::Files> HostFiles<'a, R> {
 }
 
 impl<R: rt::Files> Files for HostFiles<'_, R> {
-    ghost seen = { λ files. record { told = None; faults = files.faults; fetches = files.fetches; last_failed = None } };
+    ghost seen = { λ files. record {
+      told = None;
+      faults = files.faults;
+      fetches = files.fetches;
+      last_failed = None;
+    } };
 
     fn fetch(&mut self, name: &str, limit: usize, into: &mut Vec<u8>) -> Result<(), FetchFault> {
         self.fetches = self.fetches.saturating_add(1);

@@ -21,6 +21,8 @@ mod numbers;
 mod out_of_memory;
 mod putting;
 mod sink;
+#[cfg(test)]
+mod tests;
 mod writing;
 
 pub use decimal::{NumberFault, print_decimal, read_decimal};

@@ -1,5 +1,6 @@
-ghost use Rattle.std.specs.Prelude.{◌≡◌, ℕ, List, [], Some, None, OnOk, OnErr};
+ghost use Rattle.std.specs.Prelude.{◌≡◌, ◌<◌, ℕ, List, [], Some, None, OnOk, OnErr, IsErrOf};
 ghost use Rattle.strand_base.specs.FilesInMemory.{files_never_failing, HoldsAlso, held_by_never};
+ghost use Rattle.strand_base.specs.FilesSeen.{Fetches};
 
 use crate::held_files::{HeldFiles, give};
 use crate::{FetchFault, Files, OutOfMemory};
@@ -27,9 +28,11 @@ impl NeverFiles {
 
     /// Puts these bytes under the name, in place of those that stood there. A refusal changes nothing.
     pub fn add(&mut self, name: &str, bytes: &[u8]) -> Result<(), OutOfMemory>
-        ensures ok { OnOk result (HoldsAlso (held_by_never self.old) (held_by_never self.new) name.now bytes.now) }
+        ensures ok { OnOk result
+            (HoldsAlso (held_by_never self.old) (held_by_never self.new) name.now bytes.now) }
         ensures err { OnErr result (files_never_failing self.new ≡ files_never_failing self.old) }
-        ensures fetches { (files_never_failing self.new).fetches ≡ (files_never_failing self.old).fetches }
+        ensures fetches { (files_never_failing self.new).fetches
+            ≡ (files_never_failing self.old).fetches }
     {
         self.files.add(name, bytes)
     }
@@ -38,7 +41,14 @@ impl NeverFiles {
 impl Files for NeverFiles {
     ghost seen = { files_never_failing };
 
-    fn fetch(&mut self, name: &str, limit: usize, into: &mut Vec<u8>) -> Result<(), FetchFault> {
+    /// Never fails, and gives no bytes under a name that was not added.
+    fn fetch(&mut self, name: &str, limit: usize, into: &mut Vec<u8>) -> Result<(), FetchFault>
+        requires empty { into.old.items ≡ [] }
+        requires limit { limit < usize.MAX }
+        ensures fetches { Fetches (files_never_failing self.old) (files_never_failing self.new)
+            name.now limit into.new.items result }
+        ensures never { IsErrOf result FetchFault.Failed → ⊥ }
+    {
         self.fetches = self.fetches.saturating_add(1);
         match self.files.find(name) {
             Some(file) => give(file, limit, into),

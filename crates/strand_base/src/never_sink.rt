@@ -45,7 +45,8 @@ impl Sink for NeverSink {
 
     /// Takes the whole piece.
     fn put(&mut self, piece: &[u8]) -> Result<usize, SinkFailed>
-        ensures takes { TakesFront (sink_never_failing self.old) (sink_never_failing self.new) piece.now result }
+        ensures takes { TakesFront (sink_never_failing self.old) (sink_never_failing self.new)
+            piece.now result }
         ensures ok { result ≡ Ok (length piece.now) }
         ensures kept { self.new ≡ keeping piece.now self.old }
     {

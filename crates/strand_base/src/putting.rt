@@ -4,7 +4,9 @@ ghost use Rattle.strand_base.specs.SinkSeen.{Takes};
 
 use crate::{Sink, SinkFailed};
 
-/// Puts the whole text. A failure leaves a proper front of it taken.
+/// Puts the whole text, piece by piece. It takes no memory.
+///
+/// `SinkFailed`, only where the sink's count of faults has risen: a proper front of the text was taken.
 pub fn put_all<K: Sink>(out: &mut K, text: &[u8]) -> Result<(), SinkFailed>
     ensures ok { OnOk result (Takes (K.seen out.old).taken (K.seen out.new).taken text.now) }
     ensures err { OnErr result ((count : ℕ) × (count < length text.now)

@@ -34,7 +34,8 @@ fn put_all_spaced(into: &mut Vec<u8>, words: &[&[u8]]) -> Result<(), OutOfMemory
 /// Appends a line of words, with one space between and a line end. Where memory ran out, a front of
 /// it is appended.
 pub fn put_line(into: &mut Vec<u8>, first: &[u8], others: &[&[u8]]) -> Result<(), OutOfMemory>
-    ensures { Puts result (line_text (first.now ∷ map (λ w. w.now) others.now)) into.old.items into.new.items }
+    ensures { Puts result (line_text (first.now ∷ map (λ w. w.now) others.now))
+        into.old.items into.new.items }
 {
     put(into, first)?;
     put_all_spaced(into, others)?;
