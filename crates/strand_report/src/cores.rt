@@ -1,4 +1,4 @@
-ghost use Rattle.std.specs.Prelude.{◌≡◌, ◌<◌, ◌≤◌, ◌++◌, [], ◌∷◌, length, codes, decimal};
+ghost use Rattle.std.specs.Prelude.{◌<◌, ◌≤◌, [], ◌∷◌, length, codes, decimal};
 ghost use Rattle.strand_base.specs.Hexadecimal.{hex16};
 ghost use Rattle.strand_base.specs.Puts.{Puts};
 ghost use Rattle.strand_base.specs.Text.{line_text};
@@ -141,7 +141,6 @@ fn put_core(into: &mut Vec<u8>, core: usize, state: &CoreState) -> Result<(), Ou
 }
 
 pub(crate) fn put_cores(into: &mut Vec<u8>, cores: &[CoreState]) -> Result<(), OutOfMemory>
-    requires { length cores.now ≤ 8 }
     ensures { Puts result (numbered core_lines cores.now) into.old.items into.new.items }
 {
     for (core, state) in cores.iter().enumerate() {

@@ -1,4 +1,4 @@
-ghost use Rattle.std.specs.Prelude.{◌≡◌, [], ◌∷◌, codes, decimal};
+ghost use Rattle.std.specs.Prelude.{[], ◌∷◌, codes, decimal};
 ghost use Rattle.strand_base.specs.Puts.{Puts};
 ghost use Rattle.strand_base.specs.Text.{line_text};
 ghost use Rattle.strand_report.specs.FaultLines.{words_fault, file_fault, input_fault, fill_fault, read_fault, step_fault};

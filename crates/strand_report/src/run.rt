@@ -1,4 +1,3 @@
-ghost use Rattle.std.specs.Prelude.{◌≡◌, ◌≤◌, length};
 ghost use Rattle.strand_base.specs.Puts.{Puts};
 ghost use Rattle.strand_report.specs.Report.{stop_line, fault_lines, run_text};
 
@@ -37,8 +36,6 @@ fn put_fault(into: &mut Vec<u8>, fault: Option<StepFault>) -> Result<(), OutOfMe
 
 /// Appends the report of a run (docs/report.md). Where memory ran out, a front of it is appended.
 pub fn write_run(view: &RunView<'_>, into: &mut Vec<u8>) -> Result<(), OutOfMemory>
-    requires cores { length view.now.cores.now ≤ 8 }
-    requires held { length view.now.held.now ≤ 1048576 }
     ensures { Puts result (run_text view.now.stop view.now.cores.now view.now.held.now view.now.fault) into.old.items into.new.items }
 {
     put_stop(into, view.stop)?;

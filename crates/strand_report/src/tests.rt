@@ -1,5 +1,3 @@
-ghost use Rattle.std.specs.Prelude.{◌≤◌, length};
-
 use crate::{
     RunView, StepFault, write_file_fault, write_fill_fault, write_input_fault, write_read_fault,
     write_run, write_words_fault,
@@ -13,15 +11,6 @@ fn at(pc: u64, life: Life) -> CoreState {
         regs: [0; 32],
         life,
     }
-}
-
-fn text_of(rt: &HostRuntime, view: &RunView<'_>) -> Result<Vec<u8>, Fail>
-    requires cores { length view.now.cores.now ≤ 8 }
-    requires held { length view.now.held.now ≤ 1048576 }
-{
-    let mut text = Vec::new(rt.alloc());
-    write_run(view, &mut text)?;
-    Ok(text)
 }
 
 #[test]
@@ -48,51 +37,48 @@ fn texts_are_as_printed(rt: HostRuntime) -> Result<(), Fail> {
         called,
     ];
     let fault = Some(StepFault { module: 0, step: 5 });
-    let refused = text_of(
-        &rt,
-        &RunView {
-            stop: 4,
-            cores: &[first],
-            held: &[0, 0],
-            fault,
-        },
-    )?;
-    assert_eq!(rt;
-        refused.as_slice(),
-        b"stop 4\n\
-        core 0 pc 0000000010000010 running\n\
-        reg 0 x1 0000000000000001\n\
-        reg 0 x2 0000000040000000\n\
-        fault module 0 step 5\n"
-            .as_slice()
-    );
-    let all = text_of(
-        &rt,
-        &RunView {
-            stop: 200_000,
-            cores: &every,
-            held: &[1, 0, 0xab],
-            fault: None,
-        },
-    )?;
-    assert_eq!(rt;
-        all.as_slice(),
-        b"stop 200000\n\
-        core 0 pc 0000000010000000 running\n\
-        core 1 pc 0000000010000014 halted\n\
-        reg 1 x9 fedcba9876543210\n\
-        core 2 pc 0000000010040000 trap fetch\n\
-        core 3 pc 0000000010000004 trap target 0000000010000006\n\
-        core 4 pc 0000000010000008 trap illegal\n\
-        core 5 pc 000000001000000c trap misaligned 0000000040000003\n\
-        core 6 pc 0000000010000010 trap access ffffffffffffffff\n\
-        core 7 pc 0000000010000018 trap call 0000000000000002\n\
-        reg 7 x10 000000000000000a\n\
-        reg 7 x31 000000000000001f\n\
-        pm 0000000040000000 0000000000000001\n\
-        pm 0000000040000010 00000000000000ab\n"
-            .as_slice()
-    );
+    let views = [
+        (
+            RunView {
+                stop: 4,
+                cores: &[first],
+                held: &[0, 0],
+                fault,
+            },
+            "stop 4\n\
+            core 0 pc 0000000010000010 running\n\
+            reg 0 x1 0000000000000001\n\
+            reg 0 x2 0000000040000000\n\
+            fault module 0 step 5\n",
+        ),
+        (
+            RunView {
+                stop: 200_000,
+                cores: &every,
+                held: &[1, 0, 0xab],
+                fault: None,
+            },
+            "stop 200000\n\
+            core 0 pc 0000000010000000 running\n\
+            core 1 pc 0000000010000014 halted\n\
+            reg 1 x9 fedcba9876543210\n\
+            core 2 pc 0000000010040000 trap fetch\n\
+            core 3 pc 0000000010000004 trap target 0000000010000006\n\
+            core 4 pc 0000000010000008 trap illegal\n\
+            core 5 pc 000000001000000c trap misaligned 0000000040000003\n\
+            core 6 pc 0000000010000010 trap access ffffffffffffffff\n\
+            core 7 pc 0000000010000018 trap call 0000000000000002\n\
+            reg 7 x10 000000000000000a\n\
+            reg 7 x31 000000000000001f\n\
+            pm 0000000040000000 0000000000000001\n\
+            pm 0000000040000010 00000000000000ab\n",
+        ),
+    ];
+    for (view, expected) in &views {
+        let mut text = Vec::new(rt.alloc());
+        write_run(view, &mut text)?;
+        assert_eq!(rt; text.as_slice(), expected.as_bytes());
+    }
     let mut faults = Vec::new(rt.alloc());
     write_words_fault(&mut faults)?;
     write_file_fault(2, &mut faults)?;

@@ -1,4 +1,4 @@
-ghost use Rattle.std.specs.Prelude.{◌≡◌, ◌+◌, ◌*◌, ◌^◌, ◌<◌, ◌≤◌, length};
+ghost use Rattle.std.specs.Prelude.{◌+◌, ◌*◌, ◌^◌, ◌<◌, ◌≤◌};
 ghost use Rattle.strand_base.specs.Puts.{Puts};
 ghost use Rattle.strand_report.specs.Numbered.{numbered};
 ghost use Rattle.strand_report.specs.Report.{word_line};
@@ -32,7 +32,7 @@ pub(crate) fn put_words(
     base: u64,
     words: &[u64],
 ) -> Result<(), OutOfMemory>
-    requires { base + 8 * length words.now ≤ 2 ^ 64 }
+    requires { base ≤ 2 ^ 32 }
     ensures { Puts result (numbered (word_line name.now base) words.now) into.old.items into.new.items }
 {
     for (place, word) in words.iter().enumerate() {
