@@ -15,9 +15,9 @@ use Rattle.strand_exec.specs.declared.life.Life.TheVariants.{Running}
 use Rattle.strand_rules.specs.declared.refusals.AtModule.{AtModule}
 use Rattle.strand_rules.specs.declared.turn.Turn.{Turn}
 use Rattle.strand_rules.specs.declared.turn.Turn.TheVariants.{Done, Bubble, Fault}
-use Rattle.strand_rules.specs.Bank.{BankSeen, Stores, store_refused}
+use Rattle.strand_rules.specs.Bank.{BankSeen, Stores, store_refused, front_written}
 use Rattle.strand_rules.specs.Visible.{Program, Visible, retire}
-use Rattle.strand_rules.specs.Cycle.{State, Request, turn, after, waiting_at, request_of, start_at}
+use Rattle.strand_rules.specs.Cycle.{State, Request, turn, after, waiting_at, request_of, start_at, persistent_image, durable_set}
 
 -- a machine's program and state, how many steps it made, and for how many it has room
 pub record Machine : Type 0 where
@@ -92,3 +92,11 @@ retired_in m n = record m {
   state = record { now = retire m.program m.state.now n; retired = m.state.retired ++ n ∷ []; durable = m.state.durable };
   made = m.made + 1;
 }
+
+-- The bank stands for a state: its first words are the image of the durable set over the initial words, the others are those of `base`.
+abbrev pub Stands : List ℕ → Option (List ℕ) → State → BankSeen → Type 0
+Stands words base s bank = bank.told ≡ front_written (persistent_image words s.now.trace (durable_set s)) base
+
+-- A bank that stands for the one state stands for the other afterwards, whatever the initial words and the words behind them.
+abbrev pub StandsOn : ℕ → State → State → BankSeen → BankSeen → Type 0
+StandsOn count old new bank bank' = (words : List ℕ) (base : Option (List ℕ)) → length words ≡ count → Stands words base old bank → Stands words base new bank'

@@ -3,7 +3,8 @@ ghost use Rattle.strand_exec.specs.Memory.{extents_of};
 ghost use Rattle.strand_exec.specs.Plan.{IsPlaced};
 ghost use Rattle.strand_rules.specs.Visible.{event_of, memory_after, loaded, grown, next_plan};
 ghost use Rattle.strand_rules.specs.Cycle.{turn, plan_turn, place_of};
-ghost use Rattle.strand_rules.specs.Machine.{machine_at, stepped, retired_in, Runs, Steps};
+ghost use Rattle.strand_rules.specs.Kept.{IsKept};
+ghost use Rattle.strand_rules.specs.Machine.{machine_at, stepped, retired_in, Runs, Steps, StandsOn};
 ghost use Rattle.strand_exec.specs.Core.{fresh};
 ghost use Rattle.strand_events.specs.Trace.{persists_of, is_persist, word_of, value_of};
 ghost use Rattle.strand_inputs.specs.declared.step.Step.TheVariants.{Core, Write};
@@ -122,11 +123,12 @@ impl PlainMachine {
     }
 
     /// Makes a step. It takes no memory. A fault comes only where the bank refused the step's store, and
-    /// then nothing else changed.
+    /// then nothing else changed. A bank that stood for the state before stands for the state after it.
     pub fn step(&mut self, step: Step, bank: &mut ModuleBank) -> Turn
         requires room { self.old.made < self.old.steps }
         requires bank { self.old.program.sizes.persistent ≤ bank.old.size }
-        ensures { Steps self.old self.new bank.old bank.new step result }
+        ensures turn { Steps self.old self.new bank.old bank.new step result }
+        ensures stands { StandsOn self.old.program.sizes.persistent self.old.state self.new.state bank.old bank.new }
     {
         match step {
             Step::Core(n) => self.step_core(n),
@@ -171,6 +173,7 @@ impl PlainMachine {
         requires room { self.old.made < self.old.steps }
         ensures turn { result ≡ turn self.old.program self.old.state (Core n) }
         ensures machine { self.new ≡ stepped self.old (Core n) }
+        ensures kept { IsKept self.old }
     {
         let Some(plan) = self.next_plan(n) else {
             self.made += 1;
@@ -189,7 +192,8 @@ impl PlainMachine {
     fn step_write(&mut self, j: u32, bank: &mut ModuleBank) -> Turn
         requires room { self.old.made < self.old.steps }
         requires bank { self.old.program.sizes.persistent ≤ bank.old.size }
-        ensures { Steps self.old self.new bank.old bank.new (Write j) result }
+        ensures turn { Steps self.old self.new bank.old bank.new (Write j) result }
+        ensures stands { StandsOn self.old.program.sizes.persistent self.old.state self.new.state bank.old bank.new }
     {
         if j >= self.trace.persists() - self.durable {
             self.made += 1;
