@@ -128,6 +128,7 @@ fn files_of_the_system(rt: HostRuntime) {
             ("absent", 5, Err(FetchFault::Failed), ""),
         ],
     );
+    fs::remove_file(&rt, "image").expect(&rt, "the file is removed");
 }
 
 #[test]
