@@ -26,3 +26,5 @@ pub use sizes::Sizes;
 
 #[cfg(test)]
 mod tests;
+#[cfg(test)]
+mod word_tests;

@@ -28,22 +28,22 @@ first_of (Some f) _ = Some f
 first_of None g = g
 
 -- the first field, in the order of the variant, that is out of its range
-abbrev pub fault_of : Instr → Option FieldFault
+unfoldable pub fault_of : Instr → Option FieldFault
 fault_of (Upper op rd imm) = first_of (below Rd 32 rd) (below ImmField 1048576 imm)
 fault_of (Jal rd offset) = first_of (below Rd 32 rd) (even_within Offset 1048576 offset)
-fault_of (Jalr rd rs1 imm) = first_of (below Rd 32 rd) (first_of (below Rs1 32 rs1) (within ImmField 2048 imm))
+fault_of (Jalr rd rs1 imm) = first_of (first_of (below Rd 32 rd) (below Rs1 32 rs1)) (within ImmField 2048 imm)
 fault_of (Branch op rs1 rs2 offset) =
-    first_of (below Rs1 32 rs1) (first_of (below Rs2 32 rs2) (even_within Offset 4096 offset))
+    first_of (first_of (below Rs1 32 rs1) (below Rs2 32 rs2)) (even_within Offset 4096 offset)
 fault_of (Load op rd rs1 imm) =
-    first_of (below Rd 32 rd) (first_of (below Rs1 32 rs1) (within ImmField 2048 imm))
+    first_of (first_of (below Rd 32 rd) (below Rs1 32 rs1)) (within ImmField 2048 imm)
 fault_of (Store op rs1 rs2 imm) =
-    first_of (below Rs1 32 rs1) (first_of (below Rs2 32 rs2) (within ImmField 2048 imm))
+    first_of (first_of (below Rs1 32 rs1) (below Rs2 32 rs2)) (within ImmField 2048 imm)
 fault_of (Imm op rd rs1 imm) =
-    first_of (below Rd 32 rd) (first_of (below Rs1 32 rs1) (within ImmField 2048 imm))
+    first_of (first_of (below Rd 32 rd) (below Rs1 32 rs1)) (within ImmField 2048 imm)
 fault_of (Shift op rd rs1 amount) =
-    first_of (below Rd 32 rd) (first_of (below Rs1 32 rs1) (below Amount (amount_bound op) amount))
+    first_of (first_of (below Rd 32 rd) (below Rs1 32 rs1)) (below Amount (amount_bound op) amount)
 fault_of (Reg op rd rs1 rs2) =
-    first_of (below Rd 32 rd) (first_of (below Rs1 32 rs1) (below Rs2 32 rs2))
+    first_of (first_of (below Rd 32 rd) (below Rs1 32 rs1)) (below Rs2 32 rs2)
 fault_of (Fence rd rs1 bits) =
-    first_of (below Rd 32 rd) (first_of (below Rs1 32 rs1) (below Bits 4096 bits))
+    first_of (first_of (below Rd 32 rd) (below Rs1 32 rs1)) (below Bits 4096 bits)
 fault_of _ = None

@@ -14,6 +14,10 @@ abbrev pub IsWithin : ℕ → ℤ → Type 0
 IsWithin h (pos n) = n < h
 IsWithin h (negsuc n) = n < h
 
+-- an even signed number from -h to h - 1
+abbrev pub IsEvenWithin : ℕ → ℤ → Type 0
+IsEvenWithin h z = IsWithin h z × (field_of h z % 2 ≡ 0)
+
 -- the fields of the I form
 abbrev pub i_form : ℕ → ℕ → ℕ → ℕ → ℕ → ℕ
 i_form opcode rd funct3 rs1 imm = opcode + rd * 128 + funct3 * 4096 + rs1 * 32768 + imm * 1048576
@@ -55,10 +59,10 @@ word_of JoinStrand = 0x0000200b
 -- every field is in its range
 abbrev pub IsValid : Instr → Type 0
 IsValid (Upper op rd imm) = (rd < 32) × (imm < 1048576)
-IsValid (Jal rd offset) = (rd < 32) × IsWithin 1048576 offset × (field_of 1048576 offset % 2 ≡ 0)
+IsValid (Jal rd offset) = (rd < 32) × IsEvenWithin 1048576 offset
 IsValid (Jalr rd rs1 imm) = (rd < 32) × (rs1 < 32) × IsWithin 2048 imm
 IsValid (Branch op rs1 rs2 offset) =
-    (rs1 < 32) × (rs2 < 32) × IsWithin 4096 offset × (field_of 4096 offset % 2 ≡ 0)
+    (rs1 < 32) × (rs2 < 32) × IsEvenWithin 4096 offset
 IsValid (Load op rd rs1 imm) = (rd < 32) × (rs1 < 32) × IsWithin 2048 imm
 IsValid (Store op rs1 rs2 imm) = (rs1 < 32) × (rs2 < 32) × IsWithin 2048 imm
 IsValid (Imm op rd rs1 imm) = (rd < 32) × (rs1 < 32) × IsWithin 2048 imm

@@ -19,7 +19,6 @@ use crate::instr::{BranchOp, ImmOp, Instr, LoadOp, RegOp, ShiftOp, StoreOp, Uppe
 fn branch_op(funct3: u32) -> Option<BranchOp>
     ensures value { result ≡ branch_op funct3 }
     ensures found { IfSome result (λ op. branch_funct3 op ≡ funct3) }
-    ensures every { (op : BranchOp) → branch_funct3 op ≡ funct3 → result ≡ Some op }
 {
     match funct3 {
         0 => Some(BranchOp::Beq),
@@ -36,7 +35,6 @@ fn branch_op(funct3: u32) -> Option<BranchOp>
 fn load_op(funct3: u32) -> Option<LoadOp>
     ensures value { result ≡ load_op funct3 }
     ensures found { IfSome result (λ op. load_funct3 op ≡ funct3) }
-    ensures every { (op : LoadOp) → load_funct3 op ≡ funct3 → result ≡ Some op }
 {
     match funct3 {
         0 => Some(LoadOp::Lb),
@@ -54,7 +52,6 @@ fn load_op(funct3: u32) -> Option<LoadOp>
 fn store_op(funct3: u32) -> Option<StoreOp>
     ensures value { result ≡ store_op funct3 }
     ensures found { IfSome result (λ op. store_funct3 op ≡ funct3) }
-    ensures every { (op : StoreOp) → store_funct3 op ≡ funct3 → result ≡ Some op }
 {
     match funct3 {
         0 => Some(StoreOp::Sb),
@@ -69,7 +66,6 @@ fn store_op(funct3: u32) -> Option<StoreOp>
 fn imm_op(opcode: u32, funct3: u32) -> Option<ImmOp>
     ensures value { result ≡ imm_op opcode funct3 }
     ensures found { IfSome result (λ op. (imm_opcode op ≡ opcode) × (imm_funct3 op ≡ funct3)) }
-    ensures every { (op : ImmOp) → imm_opcode op ≡ opcode → imm_funct3 op ≡ funct3 → result ≡ Some op }
 {
     match (opcode, funct3) {
         (0b0010011, 0) => Some(ImmOp::Addi),
@@ -87,7 +83,6 @@ fn imm_op(opcode: u32, funct3: u32) -> Option<ImmOp>
 fn shift_op(opcode: u32, funct3: u32, top: u32) -> Option<ShiftOp>
     ensures value { result ≡ shift_op opcode funct3 top }
     ensures found { IfSome result (λ op. (shift_opcode op ≡ opcode) × (shift_funct3 op ≡ funct3) × (shift_funct6 op ≡ top)) }
-    ensures every { (op : ShiftOp) → shift_opcode op ≡ opcode → shift_funct3 op ≡ funct3 → shift_funct6 op ≡ top → result ≡ Some op }
 {
     match (opcode, funct3, top) {
         (0b0010011, 1, 0b000000) => Some(ShiftOp::Slli),
@@ -104,7 +99,6 @@ fn shift_op(opcode: u32, funct3: u32, top: u32) -> Option<ShiftOp>
 fn reg_op(opcode: u32, funct3: u32, top: u32) -> Option<RegOp>
     ensures value { result ≡ reg_op opcode funct3 top }
     ensures found { IfSome result (λ op. (reg_opcode op ≡ opcode) × (reg_funct3 op ≡ funct3) × (reg_funct7 op ≡ top)) }
-    ensures every { (op : RegOp) → reg_opcode op ≡ opcode → reg_funct3 op ≡ funct3 → reg_funct7 op ≡ top → result ≡ Some op }
 {
     match (opcode, funct3, top) {
         (0b0110011, 0, 0b0000000) => Some(RegOp::Add),
@@ -133,7 +127,6 @@ fn signed(half: u32, field: u32) -> i32
     ensures value { result ≡ signed_of half field }
     ensures within { IsWithin half result }
     ensures field { field_of half result ≡ field }
-    ensures only { (z : ℤ) → IsWithin half z → field_of half z ≡ field → result ≡ z }
 {
     if field < half {
         field as i32
@@ -155,7 +148,6 @@ fn decode_jal(word: u32) -> Option<Instr>
     ensures value { result ≡ Some (Jal (rd_of word) (j_immediate word)) }
     ensures valid { IfSome result IsValid }
     ensures word { IfSome result (λ i. word_of i ≡ word) }
-    ensures every { (rd : ℕ) (offset : ℤ) → IsValid (Jal rd offset) → word_of (Jal rd offset) ≡ word → result ≡ Some (Jal rd offset) }
 {
     let rd = register(word, 128);
     let field = word / 4096 % 256 * 4096
@@ -172,7 +164,6 @@ fn decode_jalr(word: u32) -> Option<Instr>
     ensures value { result ≡ jalr_at word }
     ensures valid { IfSome result IsValid }
     ensures word { IfSome result (λ i. word_of i ≡ word) }
-    ensures every { (rd rs1 : ℕ) (imm : ℤ) → IsValid (Jalr rd rs1 imm) → word_of (Jalr rd rs1 imm) ≡ word → result ≡ Some (Jalr rd rs1 imm) }
 {
     if word / 4096 % 8 != 0 {
         return None;
@@ -189,7 +180,6 @@ fn decode_branch(word: u32) -> Option<Instr>
     ensures value { result ≡ branch_at word }
     ensures valid { IfSome result IsValid }
     ensures word { IfSome result (λ i. word_of i ≡ word) }
-    ensures every { (op : BranchOp) (rs1 rs2 : ℕ) (offset : ℤ) → IsValid (Branch op rs1 rs2 offset) → word_of (Branch op rs1 rs2 offset) ≡ word → result ≡ Some (Branch op rs1 rs2 offset) }
 {
     let op = branch_op(word / 4096 % 8)?;
     let rs1 = register(word, 32768);
@@ -213,7 +203,6 @@ fn decode_load(word: u32) -> Option<Instr>
     ensures value { result ≡ load_at word }
     ensures valid { IfSome result IsValid }
     ensures word { IfSome result (λ i. word_of i ≡ word) }
-    ensures every { (op : LoadOp) (rd rs1 : ℕ) (imm : ℤ) → IsValid (Load op rd rs1 imm) → word_of (Load op rd rs1 imm) ≡ word → result ≡ Some (Load op rd rs1 imm) }
 {
     let op = load_op(word / 4096 % 8)?;
     let rd = register(word, 128);
@@ -228,7 +217,6 @@ fn decode_store(word: u32) -> Option<Instr>
     ensures value { result ≡ store_at word }
     ensures valid { IfSome result IsValid }
     ensures word { IfSome result (λ i. word_of i ≡ word) }
-    ensures every { (op : StoreOp) (rs1 rs2 : ℕ) (imm : ℤ) → IsValid (Store op rs1 rs2 imm) → word_of (Store op rs1 rs2 imm) ≡ word → result ≡ Some (Store op rs1 rs2 imm) }
 {
     let op = store_op(word / 4096 % 8)?;
     let rs1 = register(word, 32768);
@@ -243,7 +231,6 @@ fn decode_imm(word: u32) -> Option<Instr>
     ensures value { result ≡ imm_at word }
     ensures valid { IfSome result IsValid }
     ensures word { IfSome result (λ i. word_of i ≡ word) }
-    ensures every { (op : ImmOp) (rd rs1 : ℕ) (imm : ℤ) → IsValid (Imm op rd rs1 imm) → word_of (Imm op rd rs1 imm) ≡ word → result ≡ Some (Imm op rd rs1 imm) }
 {
     let op = imm_op(word % 128, word / 4096 % 8)?;
     let rd = register(word, 128);
@@ -258,7 +245,6 @@ fn decode_shift(word: u32) -> Option<Instr>
     ensures value { result ≡ shift_at word }
     ensures valid { IfSome result IsValid }
     ensures word { IfSome result (λ i. word_of i ≡ word) }
-    ensures every { (op : ShiftOp) (rd rs1 amount : ℕ) → IsValid (Shift op rd rs1 amount) → word_of (Shift op rd rs1 amount) ≡ word → result ≡ Some (Shift op rd rs1 amount) }
 {
     let op = shift_op(word % 128, word / 4096 % 8, word / 67108864)?;
     let amount = (word / 1048576 % 64) as u8;
@@ -281,7 +267,6 @@ fn decode_reg(word: u32) -> Option<Instr>
     ensures value { result ≡ reg_at word }
     ensures valid { IfSome result IsValid }
     ensures word { IfSome result (λ i. word_of i ≡ word) }
-    ensures every { (op : RegOp) (rd rs1 rs2 : ℕ) → IsValid (Reg op rd rs1 rs2) → word_of (Reg op rd rs1 rs2) ≡ word → result ≡ Some (Reg op rd rs1 rs2) }
 {
     let op = reg_op(word % 128, word / 4096 % 8, word / 33554432)?;
     let rd = register(word, 128);
@@ -296,7 +281,6 @@ fn decode_fence(word: u32) -> Option<Instr>
     ensures value { result ≡ fence_at word }
     ensures valid { IfSome result IsValid }
     ensures word { IfSome result (λ i. word_of i ≡ word) }
-    ensures every { (rd rs1 bits : ℕ) → IsValid (Fence rd rs1 bits) → word_of (Fence rd rs1 bits) ≡ word → result ≡ Some (Fence rd rs1 bits) }
 {
     if word / 4096 % 8 != 0 {
         return None;
@@ -313,8 +297,6 @@ fn decode_immediate(word: u32) -> Option<Instr>
     ensures value { result ≡ (if nat_eq (funct3 word) 1 || nat_eq (funct3 word) 5 then shift_at word else imm_at word) }
     ensures valid { IfSome result IsValid }
     ensures word { IfSome result (λ i. word_of i ≡ word) }
-    ensures every_imm { (op : ImmOp) (rd rs1 : ℕ) (imm : ℤ) → IsValid (Imm op rd rs1 imm) → word_of (Imm op rd rs1 imm) ≡ word → result ≡ Some (Imm op rd rs1 imm) }
-    ensures every_shift { (op : ShiftOp) (rd rs1 amount : ℕ) → IsValid (Shift op rd rs1 amount) → word_of (Shift op rd rs1 amount) ≡ word → result ≡ Some (Shift op rd rs1 amount) }
 {
     let funct3 = word / 4096 % 8;
     if funct3 == 1 || funct3 == 5 {
@@ -336,13 +318,12 @@ fn upper(op: UpperOp, word: u32) -> Instr
     }
 }
 
-/// The instruction that a word stands for, or `None` exactly where no instruction has the word.
+/// The instruction of a word, by its opcode.
 #[tactic(auto, unfolding(crate::specs::Decode::instr_of))]
-pub fn decode(word: u32) -> Option<Instr>
+fn read(word: u32) -> Option<Instr>
     ensures value { result ≡ instr_of word }
     ensures valid { IfSome result IsValid }
     ensures word { IfSome result (λ i. word_of i ≡ word) }
-    ensures every { (i : Instr) → IsValid i → word_of i ≡ word → result ≡ Some i }
 {
     match word % 128 {
         0b0110111 => Some(upper(UpperOp::Lui, word)),
@@ -368,4 +349,14 @@ pub fn decode(word: u32) -> Option<Instr>
         },
         _ => None,
     }
+}
+
+/// The instruction that a word stands for, or `None` exactly where no instruction has the word.
+pub fn decode(word: u32) -> Option<Instr>
+    ensures value { result ≡ instr_of word }
+    ensures valid { IfSome result IsValid }
+    ensures word { IfSome result (λ i. word_of i ≡ word) }
+    ensures every { (i : Instr) → IsValid i → word_of i ≡ word → result ≡ Some i }
+{
+    read(word)
 }

@@ -1,4 +1,5 @@
-ghost use Rattle.std.specs.Prelude.{◌≡◌, ◌+◌, ◌*◌, ◌/◌, ◌%◌, ◌<◌};
+ghost use Rattle.std.specs.Prelude.{◌≡◌, ◌+◌, ◌*◌, ◌/◌, ◌%◌, ◌<◌, Some};
+ghost use Rattle.strand_isa.specs.Decode.{instr_of};
 ghost use Rattle.strand_isa.specs.Word.{IsValid, IsWithin, b_form, field_of, i_form, j_form, s_form, word_of};
 
 use crate::codes::{
@@ -84,8 +85,8 @@ fn j_form(opcode: u32, rd: u8, imm: u32) -> u32
         + imm / 1048576 * 2147483648
 }
 
-/// The word of an instruction whose fields are in their ranges (RISC-V Unprivileged ISA, RV64I).
-pub fn encode(i: &Instr) -> u32
+/// The fields of an instruction, each at its place.
+fn placed(i: &Instr) -> u32
     requires { IsValid i.now }
     ensures { result ≡ word_of i.now }
 {
@@ -142,4 +143,13 @@ pub fn encode(i: &Instr) -> u32
         Instr::NewStrand => 0x0000100b,
         Instr::JoinStrand => 0x0000200b,
     }
+}
+
+/// The word of an instruction whose fields are in their ranges (RISC-V Unprivileged ISA, RV64I).
+pub fn encode(i: &Instr) -> u32
+    requires { IsValid i.now }
+    ensures word { result ≡ word_of i.now }
+    ensures back { instr_of result ≡ Some i.now }
+{
+    placed(i)
 }

@@ -27,4 +27,5 @@ read_fault m = line_text (codes "fault" ∷ codes "module" ∷ decimal m ∷ cod
 
 -- "fault module M step K": module M refused the store of step K
 abbrev pub step_fault : ℕ → ℕ → List ℕ
-step_fault m step = line_text (codes "fault" ∷ codes "module" ∷ decimal m ∷ codes "step" ∷ decimal step ∷ [])
+step_fault m step =
+    line_text (codes "fault" ∷ codes "module" ∷ decimal m ∷ codes "step" ∷ decimal step ∷ [])

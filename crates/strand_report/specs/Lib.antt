@@ -1,3 +1,4 @@
 pub mod FaultLines
 pub mod Numbered
 pub mod Report
+pub mod Words

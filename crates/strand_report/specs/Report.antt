@@ -1,5 +1,5 @@
 -- The report of a run: what each line says, and all lines in their order.
-use Rattle.std.specs.Prelude.{ℕ, ◌+◌, ◌*◌, List, [], ◌∷◌, ◌++◌, ◌==◌, if◌then◌else◌}
+use Rattle.std.specs.Prelude.{ℕ, List, [], ◌∷◌, ◌++◌, ◌==◌, if◌then◌else◌}
 use Rattle.std.specs.declared.option.Option.{Option}
 use Rattle.std.specs.declared.option.Option.TheVariants.{Some, None}
 use Rattle.std.specs.Fmt.{decimal}
@@ -14,6 +14,7 @@ use Rattle.strand_report.specs.declared.fault_lines.StepFault.{StepFault}
 use Rattle.strand_exec.specs.Core.{Core}
 use Rattle.strand_report.specs.FaultLines.{step_fault}
 use Rattle.strand_report.specs.Numbered.{numbered}
+use Rattle.strand_report.specs.Words.{held_lines}
 
 -- "stop S": S steps were made
 abbrev pub stop_line : ℕ → List ℕ
@@ -33,24 +34,20 @@ life_words Halted = codes "halted" ∷ []
 life_words (Trapped trap) = codes "trap" ∷ trap_words trap
 
 -- "core N pc H LIFE"
+abbrev pub core_line_of : ℕ → ℕ → List (List ℕ) → List ℕ
+core_line_of n pc life = line_text (codes "core" ∷ decimal n ∷ codes "pc" ∷ hex16 pc ∷ life)
+
 abbrev pub core_line : ℕ → Core → List ℕ
-core_line n core = line_text (codes "core" ∷ decimal n ∷ codes "pc" ∷ hex16 core.pc ∷ life_words core.life)
+core_line n core = core_line_of n core.pc (life_words core.life)
 
 -- "reg N xR H", for a register of core N that is not 0
 abbrev pub reg_line : ℕ → ℕ → ℕ → List ℕ
-reg_line n r w = if w == 0 then [] else line_text (codes "reg" ∷ decimal n ∷ (codes "x" ++ decimal r) ∷ hex16 w ∷ [])
+reg_line n r w =
+    if w == 0 then [] else line_text (codes "reg" ∷ decimal n ∷ (codes "x" ++ decimal r) ∷ hex16 w ∷ [])
 
 -- a core and its registers
 abbrev pub core_lines : ℕ → Core → List ℕ
 core_lines n core = core_line n core ++ numbered (reg_line n) core.regs
-
--- "NAME H H", address and value, for a word that is not 0, where the first word is at base
-abbrev pub word_line : List ℕ → ℕ → ℕ → ℕ → List ℕ
-word_line name base place w = if w == 0 then [] else line_text (name ∷ hex16 (base + 8 * place) ∷ hex16 w ∷ [])
-
--- the words that the modules hold
-abbrev pub held_lines : List ℕ → List ℕ
-held_lines held = numbered (word_line (codes "pm") 0x40000000) held
 
 -- where a module refused a store, that as the last line
 abbrev pub fault_lines : Option StepFault → List ℕ

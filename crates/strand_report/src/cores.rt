@@ -3,14 +3,15 @@ ghost use Rattle.strand_base.specs.Hexadecimal.{hex16};
 ghost use Rattle.strand_base.specs.Puts.{Puts};
 ghost use Rattle.strand_base.specs.Text.{line_text};
 ghost use Rattle.strand_report.specs.Numbered.{numbered};
-ghost use Rattle.strand_report.specs.Report.{core_line, core_lines, reg_line, trap_words};
+ghost use Rattle.strand_report.specs.Report.{core_line, core_line_of, core_lines, reg_line, trap_words};
 
 use itoa::Buffer;
 use strand_base::{OutOfMemory, hex_digits, put_line};
 use strand_exec::{CoreState, Life, Trap};
 
+/// The line of a core that runs or has halted.
 fn put_untrapped(into: &mut Vec<u8>, core: usize, pc: u64, life: &str) -> Result<(), OutOfMemory>
-    ensures { Puts result (line_text (codes "core" ∷ decimal core ∷ codes "pc" ∷ hex16 pc ∷ life.now ∷ [])) into.old.items into.new.items }
+    ensures { Puts result (core_line_of core pc (life.now ∷ [])) into.old.items into.new.items }
 {
     let mut number = Buffer::new();
     put_line(
@@ -25,8 +26,10 @@ fn put_untrapped(into: &mut Vec<u8>, core: usize, pc: u64, life: &str) -> Result
     )
 }
 
+/// The line of a core that a trap has ended, of a trap without a number.
 fn put_bare_trap(into: &mut Vec<u8>, core: usize, pc: u64, trap: &str) -> Result<(), OutOfMemory>
-    ensures { Puts result (line_text (codes "core" ∷ decimal core ∷ codes "pc" ∷ hex16 pc ∷ codes "trap" ∷ trap.now ∷ [])) into.old.items into.new.items }
+    ensures { Puts result (core_line_of core pc (codes "trap" ∷ trap.now ∷ []))
+        into.old.items into.new.items }
 {
     let mut number = Buffer::new();
     put_line(
@@ -42,6 +45,7 @@ fn put_bare_trap(into: &mut Vec<u8>, core: usize, pc: u64, trap: &str) -> Result
     )
 }
 
+/// The line of a core that a trap has ended, of a trap with a number.
 fn put_trap_with(
     into: &mut Vec<u8>,
     core: usize,
@@ -49,7 +53,8 @@ fn put_trap_with(
     trap: &str,
     n: u64,
 ) -> Result<(), OutOfMemory>
-    ensures { Puts result (line_text (codes "core" ∷ decimal core ∷ codes "pc" ∷ hex16 pc ∷ codes "trap" ∷ trap.now ∷ hex16 n ∷ [])) into.old.items into.new.items }
+    ensures { Puts result (core_line_of core pc (codes "trap" ∷ trap.now ∷ hex16 n ∷ []))
+        into.old.items into.new.items }
 {
     let mut number = Buffer::new();
     put_line(
@@ -66,8 +71,10 @@ fn put_trap_with(
     )
 }
 
+/// The line of a core that a trap has ended.
 fn put_trap(into: &mut Vec<u8>, core: usize, pc: u64, trap: Trap) -> Result<(), OutOfMemory>
-    ensures { Puts result (line_text (codes "core" ∷ decimal core ∷ codes "pc" ∷ hex16 pc ∷ codes "trap" ∷ trap_words trap)) into.old.items into.new.items }
+    ensures { Puts result (core_line_of core pc (codes "trap" ∷ trap_words trap))
+        into.old.items into.new.items }
 {
     match trap {
         Trap::Fetch => put_bare_trap(into, core, pc, "fetch"),
@@ -79,6 +86,7 @@ fn put_trap(into: &mut Vec<u8>, core: usize, pc: u64, trap: Trap) -> Result<(), 
     }
 }
 
+/// The line of a core.
 fn put_core_line(into: &mut Vec<u8>, core: usize, state: &CoreState) -> Result<(), OutOfMemory>
     ensures { Puts result (core_line core state.now) into.old.items into.new.items }
 {
@@ -89,8 +97,10 @@ fn put_core_line(into: &mut Vec<u8>, core: usize, state: &CoreState) -> Result<(
     }
 }
 
+/// The line of a register, by its name.
 fn put_named_reg(into: &mut Vec<u8>, core: usize, name: &[u8], word: u64) -> Result<(), OutOfMemory>
-    ensures { Puts result (line_text (codes "reg" ∷ decimal core ∷ name.now ∷ hex16 word ∷ [])) into.old.items into.new.items }
+    ensures { Puts result (line_text (codes "reg" ∷ decimal core ∷ name.now ∷ hex16 word ∷ []))
+        into.old.items into.new.items }
 {
     let mut number = Buffer::new();
     put_line(
@@ -104,6 +114,7 @@ fn put_named_reg(into: &mut Vec<u8>, core: usize, name: &[u8], word: u64) -> Res
     )
 }
 
+/// The line of a register, where it is not 0. Its number is written out here: it has at most two digits.
 #[tactic(auto, using(std::proofs::lemmas::Fmt::decimal_digit, std::proofs::lemmas::Fmt::decimal_step))]
 fn put_reg(into: &mut Vec<u8>, core: usize, reg: usize, word: u64) -> Result<(), OutOfMemory>
     requires { reg < 32 }
@@ -123,6 +134,7 @@ fn put_reg(into: &mut Vec<u8>, core: usize, reg: usize, word: u64) -> Result<(),
     )
 }
 
+/// The lines of a core's registers that are not 0.
 fn put_regs(into: &mut Vec<u8>, core: usize, regs: &[u64]) -> Result<(), OutOfMemory>
     requires { length regs.now ≤ 32 }
     ensures { Puts result (numbered (reg_line core) regs.now) into.old.items into.new.items }
@@ -133,6 +145,7 @@ fn put_regs(into: &mut Vec<u8>, core: usize, regs: &[u64]) -> Result<(), OutOfMe
     Ok(())
 }
 
+/// The lines of a core and its registers.
 fn put_core(into: &mut Vec<u8>, core: usize, state: &CoreState) -> Result<(), OutOfMemory>
     ensures { Puts result (core_lines core state.now) into.old.items into.new.items }
 {
@@ -140,6 +153,7 @@ fn put_core(into: &mut Vec<u8>, core: usize, state: &CoreState) -> Result<(), Ou
     put_regs(into, core, &state.regs)
 }
 
+/// Appends the lines of the cores, which are numbered from 0.
 pub(crate) fn put_cores(into: &mut Vec<u8>, cores: &[CoreState]) -> Result<(), OutOfMemory>
     ensures { Puts result (numbered core_lines cores.now) into.old.items into.new.items }
 {

@@ -1,20 +1,25 @@
 ghost use Rattle.std.specs.Prelude.{[], ◌∷◌, codes, decimal};
 ghost use Rattle.strand_base.specs.Puts.{Puts};
 ghost use Rattle.strand_base.specs.Text.{line_text};
-ghost use Rattle.strand_report.specs.FaultLines.{words_fault, file_fault, input_fault, fill_fault, read_fault, step_fault};
+ghost use Rattle.strand_report.specs.FaultLines.{words_fault, file_fault, input_fault};
+ghost use Rattle.strand_report.specs.FaultLines.{fill_fault, read_fault, step_fault};
 
 use itoa::Buffer;
 use strand_base::{OutOfMemory, put_line};
 
-/// A store that a module refused: the module, counted from 0, and the step, counted from 1.
+/// A store that a module refused.
 #[derive(Clone, Copy, Debug, PartialEq, Eq)]
 pub struct StepFault {
+    /// The module, counted from 0.
     pub module: u32,
+    /// The step at which it was, counted from 1.
     pub step: u64,
 }
 
+/// The line of a file's fault.
 fn put_file_fault(into: &mut Vec<u8>, kind: &str, file: u32) -> Result<(), OutOfMemory>
-    ensures { Puts result (line_text (codes "fault" ∷ kind.now ∷ decimal file ∷ [])) into.old.items into.new.items }
+    ensures { Puts result (line_text (codes "fault" ∷ kind.now ∷ decimal file ∷ []))
+        into.old.items into.new.items }
 {
     let mut number = Buffer::new();
     put_line(
@@ -24,8 +29,11 @@ fn put_file_fault(into: &mut Vec<u8>, kind: &str, file: u32) -> Result<(), OutOf
     )
 }
 
+/// The line of a module's fault outside the steps.
 fn put_module_fault(into: &mut Vec<u8>, module: u32, phase: &str) -> Result<(), OutOfMemory>
-    ensures { Puts result (line_text (codes "fault" ∷ codes "module" ∷ decimal «module» ∷ phase.now ∷ [])) into.old.items into.new.items }
+    ensures { Puts result
+        (line_text (codes "fault" ∷ codes "module" ∷ decimal «module» ∷ phase.now ∷ []))
+        into.old.items into.new.items }
 {
     let mut number = Buffer::new();
     put_line(
@@ -39,8 +47,9 @@ fn put_module_fault(into: &mut Vec<u8>, module: u32, phase: &str) -> Result<(), 
     )
 }
 
-/// Appends `fault words`: the words are no command. Where memory ran out, a front of the line is
-/// appended; so it is in each function of this module.
+/// Appends `fault words`: the words are no command.
+///
+/// `OutOfMemory`: a front of the line is appended; so it is with each of these lines.
 pub fn write_words_fault(into: &mut Vec<u8>) -> Result<(), OutOfMemory>
     ensures { Puts result words_fault into.old.items into.new.items }
 {
@@ -75,6 +84,7 @@ pub fn write_read_fault(module: u32, into: &mut Vec<u8>) -> Result<(), OutOfMemo
     put_module_fault(into, module, "read")
 }
 
+/// Appends `fault module M step K`.
 pub(crate) fn put_step_fault(into: &mut Vec<u8>, fault: StepFault) -> Result<(), OutOfMemory>
     ensures { Puts result (step_fault fault.«module» fault.step) into.old.items into.new.items }
 {

@@ -8,16 +8,20 @@ use itoa::Buffer;
 use strand_base::{OutOfMemory, put_line};
 use strand_exec::CoreState;
 
-/// What a run's report is made of: the steps that were made, the cores, the words that the modules
-/// hold, and where a module refused a store, that.
+/// What a run's report is made of.
 #[derive(Clone, Copy)]
 pub struct RunView<'a> {
+    /// How many steps were made.
     pub stop: u64,
+    /// The cores as they are then.
     pub cores: &'a [CoreState],
+    /// The words that the modules hold, from the address 0x40000000 on.
     pub held: &'a [u64],
+    /// The store that a module refused at the next step, if it did.
     pub fault: Option<StepFault>,
 }
 
+/// The line of the stop.
 fn put_stop(into: &mut Vec<u8>, stop: u64) -> Result<(), OutOfMemory>
     ensures { Puts result (stop_line stop) into.old.items into.new.items }
 {
@@ -25,6 +29,7 @@ fn put_stop(into: &mut Vec<u8>, stop: u64) -> Result<(), OutOfMemory>
     put_line(into, b"stop", &[number.format(stop).as_bytes()])
 }
 
+/// The line of a refused store, where there was one.
 fn put_fault(into: &mut Vec<u8>, fault: Option<StepFault>) -> Result<(), OutOfMemory>
     ensures { Puts result (fault_lines fault) into.old.items into.new.items }
 {
@@ -34,9 +39,13 @@ fn put_fault(into: &mut Vec<u8>, fault: Option<StepFault>) -> Result<(), OutOfMe
     }
 }
 
-/// Appends the report of a run (docs/report.md). Where memory ran out, a front of it is appended.
+/// Appends the report of a run (docs/report.md). It takes memory for the text alone.
+///
+/// `OutOfMemory`: a front of the report is appended.
 pub fn write_run(view: &RunView<'_>, into: &mut Vec<u8>) -> Result<(), OutOfMemory>
-    ensures { Puts result (run_text view.now.stop view.now.cores.now view.now.held.now view.now.fault) into.old.items into.new.items }
+    ensures { Puts result
+        (run_text view.now.stop view.now.cores.now view.now.held.now view.now.fault)
+        into.old.items into.new.items }
 {
     put_stop(into, view.stop)?;
     put_cores(into, view.cores)?;

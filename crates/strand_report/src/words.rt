@@ -1,10 +1,11 @@
 ghost use Rattle.std.specs.Prelude.{◌+◌, ◌*◌, ◌^◌, ◌<◌, ◌≤◌};
 ghost use Rattle.strand_base.specs.Puts.{Puts};
 ghost use Rattle.strand_report.specs.Numbered.{numbered};
-ghost use Rattle.strand_report.specs.Report.{word_line};
+ghost use Rattle.strand_report.specs.Words.{word_line};
 
 use strand_base::{OutOfMemory, hex_digits, put_line};
 
+/// The line of a word, where it is not 0.
 fn put_word(
     into: &mut Vec<u8>,
     name: &str,
@@ -26,6 +27,8 @@ fn put_word(
     )
 }
 
+/// Appends the lines of the words that are not 0. The first word has the address `base`, and each
+/// further one an address higher by 8.
 pub(crate) fn put_words(
     into: &mut Vec<u8>,
     name: &str,
@@ -33,7 +36,8 @@ pub(crate) fn put_words(
     words: &[u64],
 ) -> Result<(), OutOfMemory>
     requires { base ≤ 2 ^ 32 }
-    ensures { Puts result (numbered (word_line name.now base) words.now) into.old.items into.new.items }
+    ensures { Puts result (numbered (word_line name.now base) words.now)
+        into.old.items into.new.items }
 {
     for (place, word) in words.iter().enumerate() {
         put_word(into, name, base, place, *word)?;

@@ -7,6 +7,7 @@ use Rattle.std.proofs.lemmas.Bool.{cases_Bool, leb-true, and_parts}
 use Rattle.std.proofs.lemmas.Option.{none-some, same_Some, get_or_from_slice_get}
 use Rattle.strand_base.specs.Counting.{count_below}
 use Rattle.strand_base.proofs.Counting.{count_agree, count_mono, list_length, list_get}
+use Rattle.strand_exec.specs.Arith.{merged}
 use Rattle.strand_exec.specs.Core.{Core, Extents}
 use Rattle.strand_exec.specs.Memory.{Memory, word_in, with_word}
 use Rattle.strand_exec.specs.Plan.{IsWord, plan_of, finished}
@@ -19,7 +20,7 @@ use Rattle.strand_events.specs.declared.event.Event.TheVariants as events
 use Rattle.strand_events.specs.Trace.{is_persist, event_is, word_of, value_of, word_at, value_at, persists_of, passes}
 use Rattle.strand_events.specs.Fits.{is_persistent}
 use Rattle.strand_events.proofs.Prefix.{event_is_kept}
-use Rattle.strand_rules.specs.Visible.{Program, Visible, event_of, memory_after, loaded, merged, grown, acted, retire}
+use Rattle.strand_rules.specs.Visible.{Program, Visible, event_of, memory_after, loaded, grown, acted, retire}
 use Rattle.strand_rules.specs.Cycle.{place_of, address_of}
 use Rattle.strand_rules.specs.Machine.{Machine, Runs, retired_in}
 use Rattle.strand_rules.specs.Kept.{IsPlaced, IsKept}

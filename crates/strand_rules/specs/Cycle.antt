@@ -6,6 +6,7 @@ use Rattle.strand_base.specs.Counting.{count_below}
 use Rattle.strand_inputs.specs.declared.step.Step.{Step}
 use Rattle.strand_inputs.specs.declared.step.Step.TheVariants.{Core, Dispatch, Send, Write}
 use Rattle.strand_exec.specs.Core as cores
+use Rattle.strand_exec.specs.Core.{persistent_base}
 use Rattle.strand_exec.specs.Memory.{Memory}
 use Rattle.strand_exec.specs.declared.planned.Plan.{Plan}
 use Rattle.strand_exec.specs.declared.planned.Plan.TheVariants as plans
@@ -90,10 +91,10 @@ run p s (step ∷ steps) = run p (after p s step) steps
 
 -- where a persistent word stands among the persistent words, and its address
 abbrev pub place_of : ℕ → ℕ
-place_of word = (word - 1073741824) / 8
+place_of word = (word - persistent_base) / 8
 
 abbrev pub address_of : ℕ → ℕ
-address_of place = 1073741824 + 8 * place
+address_of place = persistent_base + 8 * place
 
 -- the values that the image gives the persistent words, from their initial values
 unfoldable pub persistent_image : List ℕ → List Event → Set → List ℕ

@@ -1,4 +1,5 @@
 pub mod Bank
+pub mod RamModuleSeen
 pub mod Visible
 pub mod Cycle
 pub mod Machine

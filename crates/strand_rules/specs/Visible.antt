@@ -1,10 +1,10 @@
 -- The visible run: the instruction table, applied to cores in turn over one flat memory.
 use Rattle.std.specs.Prelude.{ℕ, ◌-◌, ◌^◌, List, [], ◌∷◌, ◌++◌, slice_get, slice_set, bit_and, bit_or, Some, None}
 use Rattle.std.specs.declared.option.Option.{Option}
+use Rattle.strand_exec.specs.Arith.{merged}
 use Rattle.strand_exec.specs.Core.{Core, Extents}
 use Rattle.strand_exec.specs.Memory.{Memory, word_in, with_word}
 use Rattle.strand_exec.specs.Plan.{plan_of, finished}
-
 use Rattle.strand_exec.specs.declared.planned.Plan.{Plan}
 use Rattle.strand_exec.specs.declared.planned.Plan.TheVariants as plans
 use Rattle.strand_exec.specs.declared.life.Life.{Life}
@@ -23,10 +23,6 @@ pub record Visible : Type 0 where
   pub cores : List Core
   pub memory : Memory
   pub trace : List Event
-
--- a word with the bits of a mask replaced
-abbrev pub merged : ℕ → ℕ → ℕ → ℕ
-merged old mask bits = bit_or (bit_and old (2 ^ 64 - 1 - mask)) bits
 
 -- the event that core n's instruction makes
 abbrev pub event_of : ℕ → Memory → Plan → Option Event

@@ -1,4 +1,4 @@
-//! The plain machine: one strict core under a schedule, its visible run, and the bank of memory
+//! The plain machine: strict cores under a schedule, their visible run, and the bank of memory
 //! modules that it stores to.
 #![tactic(auto)]
 
@@ -16,3 +16,5 @@ pub use ram_module::RamModule;
 pub use refusals::{AtModule, Refusals};
 pub use turn::{Cause, Turn};
 
+#[cfg(test)]
+mod tests;

@@ -14,7 +14,7 @@ use std::alloc::Global;
 use std::marker::Model;
 use strand_base::OutOfMemory;
 use strand_events::{Event, Trace};
-use strand_exec::{CoreState, FlatMemory, Life, Plan, Sizes, finish, plan};
+use strand_exec::{CoreState, FlatMemory, Life, PERSISTENT_BASE, Plan, Sizes, finish, merged, plan};
 use strand_image::Image;
 use strand_inputs::Step;
 
@@ -64,9 +64,9 @@ fn act(memory: &mut FlatMemory, trace: &mut Trace, core: u32, plan: Plan) -> u64
             return memory.read(word);
         }
         Plan::Store { word, mask, bits } => {
-            let value = memory.read(word) & !mask | bits;
+            let value = merged(memory.read(word), mask, bits);
             memory.write(word, value);
-            let persist = word >= 0x4000_0000;
+            let persist = word >= PERSISTENT_BASE;
             trace.push(Event::Store {
                 core,
                 word,
@@ -120,6 +120,37 @@ impl PlainMachine {
         ensures few { length result.now ≤ 4 }
     {
         &self.cores
+    }
+
+    /// Core n, numbered from 0.
+    pub fn core(&self, n: u32) -> &CoreState
+        requires { n < length self.now.state.now.cores }
+        ensures { slice_get self.now.state.now.cores n ≡ Some result.now }
+    {
+        &self.cores[n as usize]
+    }
+
+    /// The events so far, and the room for all steps.
+    pub fn trace(&self) -> &Trace
+        ensures events { result.now.events ≡ self.now.state.now.trace }
+        ensures room { result.now.room ≡ self.now.steps }
+    {
+        &self.trace
+    }
+
+    /// The cores that retired an instruction, in turn.
+    pub fn retired(&self) -> &[u32]
+        ensures { result.now ≡ self.now.state.retired }
+    {
+        &self.retired
+    }
+
+    /// A copy of the memory, as the cores see it.
+    pub fn flatten(&self) -> Result<FlatMemory, OutOfMemory>
+        ensures { IfOk result (λ memory. memory ≡ self.now.state.now.memory) }
+    {
+        let alloc = *self.code.allocator();
+        FlatMemory::copy(alloc, &self.memory.volatile, &self.memory.persistent)
     }
 
     /// Makes a step. It takes no memory. A fault comes only where the bank refused the step's store, and
@@ -249,7 +280,7 @@ fn request(persist: Event) -> (u64, u64)
     ensures value { result.1 ≡ value_of persist }
 {
     match persist {
-        Event::Store { word, value, .. } => (word.saturating_sub(0x4000_0000) / 8, value),
+        Event::Store { word, value, .. } => (word.saturating_sub(PERSISTENT_BASE) / 8, value),
         _ => (0, 0),
     }
 }

@@ -1,9 +1,13 @@
-// A memory module in memory.
-ghost use Rattle.std.specs.Prelude.{◌≡◌, ◌<◌, ◌≤◌, ◌+◌, ◌^◌, [], Some, IfOk, vec_len, length, replicate};
+ghost use Rattle.std.specs.Prelude.{◌≡◌, ◌<◌, ◌↔◌, [], Some, IfOk, OnOk, OnErr, IsErr, replicate};
+ghost use Rattle.strand_base.specs.Counts.{next};
+ghost use Rattle.strand_base.specs.ModuleSeen.{LoadsWord, StoresWord};
+ghost use Rattle.strand_base.specs.Plan.{FailsNext, called, naming};
+ghost use Rattle.strand_rules.specs.RamModuleSeen.{ram_module_seen, plan_of};
 
-use strand_base::{FaultPlan, ModuleFailed, OutOfMemory, PmModule};
 use std::alloc::Global;
+use strand_base::{FaultPlan, ModuleFailed, OutOfMemory, PmModule};
 
+/// A memory module in memory, which tells its words and fails at the calls that were named.
 #[derive(Drop)]
 pub struct RamModule {
     words: Vec<u64>,
@@ -14,7 +18,9 @@ pub struct RamModule {
 impl RamModule {
     /// A module of so many words, each 0.
     pub fn new(alloc: Global, words: u64) -> Result<RamModule, OutOfMemory>
-        ensures { IfOk result (λ ram. ⟦<RamModule as PmModule>⟧.holds ram ≡ record { size = words; told = Some (replicate words 0); faults = 0 }) }
+        ensures seen { IfOk result (λ ram. ram_module_seen ram
+            ≡ record { size = words; told = Some (replicate words 0); faults = 0 }) }
+        ensures plan { IfOk result (λ ram. plan_of ram ≡ record { made = 0; failing = [] }) }
     {
         let words = vec![in alloc; 0; words as usize]?;
         Ok(RamModule {
@@ -24,22 +30,33 @@ impl RamModule {
         })
     }
 
-    /// Makes the call of that number a fault. Loads and stores are counted together, from 1.
+    /// Makes the call of that number a fault; loads and stores are counted together, from 1. A refusal
+    /// changes nothing.
     pub fn fail_at(&mut self, call: u64) -> Result<(), OutOfMemory>
-        ensures { ⟦<RamModule as PmModule>⟧.holds self.new ≡ ⟦<RamModule as PmModule>⟧.holds self.old }
+        ensures ok { OnOk result (plan_of self.new ≡ naming call (plan_of self.old)) }
+        ensures err { OnErr result (plan_of self.new ≡ plan_of self.old) }
+        ensures same { ram_module_seen self.new ≡ ram_module_seen self.old }
     {
         self.plan.fail_at(call)
     }
 }
 
 impl PmModule for RamModule {
-    ghost holds = { λ ram. record { size = vec_len ram.words; told = Some ram.words.items; faults = ram.faults } };
+    ghost holds = { ram_module_seen };
 
     fn words(&self) -> u64 {
         self.words.len() as u64
     }
 
-    fn load(&mut self, at: u64) -> Result<u64, ModuleFailed> {
+    /// Fails exactly at the calls that were named.
+    fn load(&mut self, at: u64) -> Result<u64, ModuleFailed>
+        requires { at < (ram_module_seen self.old).size }
+        ensures loads { LoadsWord (ram_module_seen self.old) (ram_module_seen self.new) at result }
+        ensures fails { IsErr result ↔ FailsNext (plan_of self.old) }
+        ensures plan { plan_of self.new ≡ called (plan_of self.old) }
+        ensures stays { OnOk result ((ram_module_seen self.new).faults ≡ (ram_module_seen self.old).faults) }
+        ensures rises { OnErr result ((ram_module_seen self.new).faults ≡ next (ram_module_seen self.old).faults) }
+    {
         if self.plan.fires() {
             self.faults = self.faults.saturating_add(1);
             return Err(ModuleFailed);
@@ -47,7 +64,15 @@ impl PmModule for RamModule {
         Ok(self.words[at as usize])
     }
 
-    fn store(&mut self, at: u64, value: u64) -> Result<(), ModuleFailed> {
+    /// Fails exactly at the calls that were named.
+    fn store(&mut self, at: u64, value: u64) -> Result<(), ModuleFailed>
+        requires { at < (ram_module_seen self.old).size }
+        ensures stores { StoresWord (ram_module_seen self.old) (ram_module_seen self.new) at value result }
+        ensures fails { IsErr result ↔ FailsNext (plan_of self.old) }
+        ensures plan { plan_of self.new ≡ called (plan_of self.old) }
+        ensures stays { OnOk result ((ram_module_seen self.new).faults ≡ (ram_module_seen self.old).faults) }
+        ensures rises { OnErr result ((ram_module_seen self.new).faults ≡ next (ram_module_seen self.old).faults) }
+    {
         if self.plan.fires() {
             self.faults = self.faults.saturating_add(1);
             return Err(ModuleFailed);

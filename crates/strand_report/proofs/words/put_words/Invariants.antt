@@ -1,5 +1,5 @@
 use Rattle.std.proofs.Common.{◌≡◌, ◌++◌}
-use Rattle.strand_report.specs.Report.{word_line}
+use Rattle.strand_report.specs.Words.{word_line}
 use Rattle.strand_report.proofs.Numbered.{numbered_so_far}
 use Rattle.strand_report.proofs.words.put_words.Given as goal
 

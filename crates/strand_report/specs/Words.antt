@@ -1,0 +1,15 @@
+-- The words of a memory, as lines.
+use Rattle.std.specs.Prelude.{ℕ, ◌+◌, ◌*◌, List, [], ◌∷◌, ◌==◌, if◌then◌else◌}
+use lib.Chars.{codes}
+use Rattle.strand_base.specs.Hexadecimal.{hex16}
+use Rattle.strand_base.specs.Text.{line_text}
+use Rattle.strand_report.specs.Numbered.{numbered}
+
+-- "NAME H H", address and value, for a word that is not 0, where the first word is at base
+abbrev pub word_line : List ℕ → ℕ → ℕ → ℕ → List ℕ
+word_line name base place w =
+    if w == 0 then [] else line_text (name ∷ hex16 (base + 8 * place) ∷ hex16 w ∷ [])
+
+-- the words that the modules hold
+abbrev pub held_lines : List ℕ → List ℕ
+held_lines held = numbered (word_line (codes "pm") 0x40000000) held
