@@ -1,0 +1,5 @@
+pub mod Following
+pub mod Opened
+pub mod Stepwise
+pub mod Ran
+pub mod Whole

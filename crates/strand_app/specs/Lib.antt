@@ -1,0 +1,12 @@
+pub mod StatusCode
+pub mod FirstForms
+pub mod Inputs
+pub mod World
+pub mod RunAnswer
+pub mod Opening
+pub mod Stepping
+pub mod Making
+pub mod Command
+pub mod CommandView
+pub mod Ends
+pub mod Runs

@@ -1,0 +1,16 @@
+//! The program's one call: from the words, the files, the sink and the bank to the status.
+#![tactic(auto)]
+
+mod answers;
+mod command;
+mod forms;
+mod opening;
+mod reading;
+mod run;
+mod running;
+mod status;
+mod stepping;
+mod top;
+
+pub use status::{Made, Status};
+pub use top::strand_main;
