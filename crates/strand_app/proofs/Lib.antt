@@ -3,3 +3,5 @@ pub mod Opened
 pub mod Stepwise
 pub mod Ran
 pub mod Whole
+pub mod Causes
+pub mod Crash

@@ -102,7 +102,7 @@ module _ (p : Parts) (steps : List Step) (m0 m1 : Machine) (b0 b1 b2 b3 : BankSe
         leaves = same ∙ subst (λ (s : State). b2.told ≡ front_written (words_of_state p s) b0.told) state so.stands;
         status = refl;
         text = subst (λ (s : State). OnSome b0.told (run_text (length steps) m1.state.now.cores held None ≡ report_of p (length steps) s None)) state
-          (text_is b0.told (length steps) m1.state.now.cores held (words_of_state p m1.state) None (held_is b0.told b2.told (words_of_state p m1.state) held (length p.persistent) (image_length p m1.state) so.stands words));
+            (text_is b0.told (length steps) m1.state.now.cores held (words_of_state p m1.state) None (held_is b0.told b2.told (words_of_state p m1.state) held (length p.persistent) (image_length p m1.state) so.stands words));
       }
   ran (Some f) held so kept same refused words =
       let state = so.to.0 in
@@ -116,7 +116,7 @@ module _ (p : Parts) (steps : List Step) (m0 m1 : Machine) (b0 b1 b2 b3 : BankSe
         leaves = same ∙ subst (λ (s : State). b2.told ≡ front_written (words_of_state p s) b0.told) state so.stands;
         status = refl;
         text = subst (λ (n : ℕ). OnSome b0.told (run_text (f.step - 1) m1.state.now.cores held (Some f) ≡ report_of p n (state_after p (take (f.step - 1) steps)) (Some f))) (sym long)
-          (subst (λ (s : State). OnSome b0.told (run_text (f.step - 1) m1.state.now.cores held (Some f) ≡ report_of p (f.step - 1) s (Some f))) state
+            (subst (λ (s : State). OnSome b0.told (run_text (f.step - 1) m1.state.now.cores held (Some f) ≡ report_of p (f.step - 1) s (Some f))) state
             (text_is b0.told (f.step - 1) m1.state.now.cores held (words_of_state p m1.state) (Some f) (held_is b0.told b2.told (words_of_state p m1.state) held (length p.persistent) (image_length p m1.state) so.stands words)));
       }
 

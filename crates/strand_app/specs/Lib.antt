@@ -10,3 +10,5 @@ pub mod Command
 pub mod CommandView
 pub mod Ends
 pub mod Runs
+pub mod Causes
+pub mod Crash

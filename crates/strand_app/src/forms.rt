@@ -15,8 +15,7 @@ pub fn is_machine(bytes: &[u8]) -> bool
     requires { length bytes.now ≤ 4096 }
     ensures { result ≡ is_machine bytes.now }
 {
-    bytes
-        == b"mode strict\nqueue 64\nbuffers 1\nring 64\nflight 64\nsets 4\nways 2\n".as_slice()
+    bytes == b"mode strict\nqueue 64\nbuffers 1\nring 64\nflight 64\nsets 4\nways 2\n".as_slice()
 }
 
 fn is_first_instr(i: Option<Instr>) -> bool

@@ -14,7 +14,9 @@ use strand_inputs::{Schedule, Stop, stop_at};
 #[derive(Drop)]
 pub enum Opened {
     /// File k, counted from 1, is at fault.
-    Bad { file: u32 },
+    Bad {
+        file: u32,
+    },
     /// An image, and how many steps of a schedule are to be made.
     Good {
         image: Image,

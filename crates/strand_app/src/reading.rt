@@ -22,11 +22,7 @@ impl<T: Drop> From<AllocFailed<T>> for ReadFault {
 }
 
 /// The first words of the bank, read one by one.
-pub fn read_words(
-    alloc: Global,
-    count: usize,
-    bank: &mut ModuleBank,
-) -> Result<Vec<u64>, ReadFault>
+pub fn read_words(alloc: Global, count: usize, bank: &mut ModuleBank) -> Result<Vec<u64>, ReadFault>
     requires { count ≤ bank.old.size }
     ensures { ReadsFirst (λ words. words.items) bank.old bank.new count result }
 {

@@ -30,11 +30,13 @@ pub fn run<F: Files>(
 {
     match open_files(alloc, machine, image, schedule, bank.words(), stop, files) {
         Ok(Opened::Bad { file }) => input_fault(alloc, file),
-        Ok(Opened::Good {
-            image,
-            schedule,
-            stop,
-        }) => run_on_bank(alloc, &image, &schedule.steps()[..stop as usize], bank),
+        Ok(
+            Opened::Good {
+                image,
+                schedule,
+                stop,
+            },
+        ) => run_on_bank(alloc, &image, &schedule.steps()[..stop as usize], bank),
         Err(OpenFault::Fetch { file }) => file_fault(alloc, file),
         Err(OpenFault::OutOfMemory) => Err(OutOfMemory),
     }

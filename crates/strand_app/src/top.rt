@@ -1,5 +1,9 @@
 ghost use Rattle.std.specs.Prelude.{◌≡◌, map, string_bytes, IfOk, OnErr};
+ghost use Rattle.std.specs.Prelude.{None};
+ghost use Rattle.strand_report.specs.FaultLines.{words_fault};
+ghost use Rattle.strand_app.specs.Causes.{FileCause, ModuleCause, SinkCause, MemoryCause};
 ghost use Rattle.strand_app.specs.Command.{command_of};
+ghost use Rattle.strand_app.specs.Crash.{CommandTells, CommandLeavesAllowed};
 ghost use Rattle.strand_app.specs.Ends.{Ends};
 ghost use Rattle.strand_app.specs.Runs.{Runs};
 ghost use Rattle.strand_app.specs.World.{world};
@@ -41,7 +45,37 @@ pub fn strand_main<F: Files, K: Sink>(
     out: &mut K,
     bank: &mut ModuleBank,
 ) -> Status
+    // The whole call: what is put, how it ends, and what the bank holds.
     ensures runs { Runs (command_of (map string_bytes words.now)) (world (F.seen files.old) bank.old) (world (F.seen files.new) bank.new) (K.seen out.old) (K.seen out.new) result }
+
+    // Where all went well the report is that of the visible run, and the bank holds the words that it tells.
+    ensures visible { result ≡ Status.Ok → CommandTells (command_of (map string_bytes words.now)) (world (F.seen files.old) bank.old) (world (F.seen files.new) bank.new) (K.seen out.old) (K.seen out.new) }
+
+    // However the call ends, what its steps left in the bank is an image that persist order allows.
+    ensures crash { CommandLeavesAllowed (command_of (map string_bytes words.now)) (world (F.seen files.old) bank.old) (world (F.seen files.new) bank.new) }
+
+    // Only words that are no command are answered so, and they always are.
+    ensures words { result ≡ Status.Words → command_of (map string_bytes words.now) ≡ None }
+    ensures no_command { command_of (map string_bytes words.now) ≡ None → Ends Status.Words words_fault (K.seen out.old) (K.seen out.new) result }
+
+    // Each fault has its cause.
+    ensures file_fault { result ≡ Status.FileFault → FileCause (command_of (map string_bytes words.now)) (world (F.seen files.old) bank.old) (world (F.seen files.new) bank.new) (K.seen out.old) (K.seen out.new) }
+    ensures module_fault { result ≡ Status.ModuleFault → ModuleCause (world (F.seen files.old) bank.old) (world (F.seen files.new) bank.new) (K.seen out.old) (K.seen out.new) }
+    ensures sink_fault { result ≡ Status.SinkFault → SinkCause (command_of (map string_bytes words.now)) (world (F.seen files.old) bank.old) (world (F.seen files.new) bank.new) (K.seen out.old) (K.seen out.new) result }
+    ensures memory { result ≡ Status.Memory → MemoryCause (command_of (map string_bytes words.now)) (K.seen out.old) (K.seen out.new) }
+{
+    run_command(alloc, words, files, out, bank)
+}
+
+// The whole call, by its command.
+fn run_command<F: Files, K: Sink>(
+    alloc: Global,
+    words: &[String],
+    files: &mut F,
+    out: &mut K,
+    bank: &mut ModuleBank,
+) -> Status
+    ensures { Runs (command_of (map string_bytes words.now)) (world (F.seen files.old) bank.old) (world (F.seen files.new) bank.new) (K.seen out.old) (K.seen out.new) result }
 {
     match read_command(words) {
         None => put_text(out, Status::Words, b"fault words\n"),

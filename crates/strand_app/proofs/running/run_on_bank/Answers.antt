@@ -26,8 +26,8 @@ returns-in-Ok-clause-made c =
     let count = ap length c.persistent-count.ensures.persistent in
     gives_made c.args.image.now c.args.steps.now c.args.bank.now c.read_words.new.bank (status_of c.make_steps-fault.result) _ c.report.result c.report.ensures
     (rw (c.steps_made.ensures, c.deref.ensures.value)
-      (ran c.args.image.now c.args.steps.now c.in_ok-machine.machine c.make_steps-fault.new.machine c.args.bank.now c.fill.new.self c.make_steps-fault.new.bank c.read_words.new.bank c.in_ok-machine.ensures fills c.make_steps-fault.result c.in-Ok.held.items so c.in-Ok.ensures.kept c.in-Ok.ensures.same c.in-Ok.ensures.accepted
-        (subst (λ (n : ℕ). IfSome c.make_steps-fault.new.bank.told (λ words. c.in-Ok.held.items ≡ take n words)) count c.in-Ok.ensures.words_are)))
+    (ran c.args.image.now c.args.steps.now c.in_ok-machine.machine c.make_steps-fault.new.machine c.args.bank.now c.fill.new.self c.make_steps-fault.new.bank c.read_words.new.bank c.in_ok-machine.ensures fills c.make_steps-fault.result c.in-Ok.held.items so c.in-Ok.ensures.kept c.in-Ok.ensures.same c.in-Ok.ensures.accepted
+    (subst (λ (n : ℕ). IfSome c.make_steps-fault.new.bank.told (λ words. c.in-Ok.held.items ≡ take n words)) count c.in-Ok.ensures.words_are)))
 
 pub returns-in-Ok-clause-memory : goal.returns-in-Ok-clause-memory
 returns-in-Ok-clause-memory c =

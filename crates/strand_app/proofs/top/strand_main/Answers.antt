@@ -1,11 +1,27 @@
-use Rattle.strand_app.specs.CommandView.{view}
-use Rattle.strand_app.specs.World.{world}
-use Rattle.strand_app.proofs.Whole.{run_runs}
+use Rattle.strand_app.proofs.Causes.{words_of, no_command_of, memory_of, sink_of, file_of, module_of}
+use Rattle.strand_app.proofs.Crash.{crash_of, visible_of}
 use Rattle.strand_app.proofs.top.strand_main.Goals as goal
 
-pub returns-in-Some : goal.returns-in-Some
-returns-in-Some g c =
-    record {
-      runs = run_runs _ (view c.in-Some.command) (world (g.F.Files.seen c.args.files.now) c.args.bank.now) (world (g.F.Files.seen c.run-made.new.files) c.run-made.new.bank)
-        (g.K.Sink.seen c.args.out.now) (g.K.Sink.seen c.finish.new.out) c.finish.result c.run-made.result c.in-Some.ensures c.run-made.ensures.made c.run-made.ensures.memory c.finish.ensures.made c.finish.ensures.memory;
-    }
+pub returns-clause-visible : goal.returns-clause-visible
+returns-clause-visible g c = λ e. visible_of _ _ _ _ _ _ e c.run_command.ensures
+
+pub returns-clause-crash : goal.returns-clause-crash
+returns-clause-crash g c = crash_of _ _ _ _ _ _ c.run_command.ensures
+
+pub returns-clause-words : goal.returns-clause-words
+returns-clause-words g c = λ e. words_of _ _ _ _ _ _ e c.run_command.ensures
+
+pub returns-clause-no_command : goal.returns-clause-no_command
+returns-clause-no_command g c = λ e. no_command_of _ _ _ _ _ _ e c.run_command.ensures
+
+pub returns-clause-file_fault : goal.returns-clause-file_fault
+returns-clause-file_fault g c = λ e. file_of _ _ _ _ _ _ e c.run_command.ensures
+
+pub returns-clause-module_fault : goal.returns-clause-module_fault
+returns-clause-module_fault g c = λ e. module_of _ _ _ _ _ _ e c.run_command.ensures
+
+pub returns-clause-sink_fault : goal.returns-clause-sink_fault
+returns-clause-sink_fault g c = λ e. sink_of _ _ _ _ _ _ e c.run_command.ensures
+
+pub returns-clause-memory : goal.returns-clause-memory
+returns-clause-memory g c = λ e. memory_of _ _ _ _ _ _ e c.run_command.ensures

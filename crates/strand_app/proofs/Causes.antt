@@ -1,0 +1,203 @@
+-- The cause of each fault, read off the whole call.
+use Rattle.std.proofs.Common.{◌≡◌, ℕ, ◌-◌, List, [], ◌∷◌, ◌++◌, length, take, refl, sym, ap, ◌∙◌, inl, inr, subst}
+use Rattle.std.specs.Prelude.{Some, None, OnSome}
+use Rattle.std.specs.declared.option.Option.{Option}
+use Rattle.std.proofs.lemmas.List.{append_assoc}
+use Rattle.strand_base.specs.SinkSeen.{SinkSeen, Takes}
+use Rattle.strand_exec.specs.Core.{Core}
+use Rattle.strand_report.specs.Report.{run_text, stop_line, core_lines}
+use Rattle.strand_report.specs.Numbered.{numbered}
+use Rattle.strand_report.specs.Words.{held_lines}
+use Rattle.strand_report.specs.declared.fault_lines.StepFault.{StepFault}
+use Rattle.strand_report.specs.FaultLines.{file_fault, words_fault, step_fault}
+use Rattle.strand_app.specs.declared.status.Status.{Status}
+use Rattle.strand_app.specs.declared.status.Status.TheVariants as status
+use Rattle.strand_app.specs.Causes.{FileCause, IsRefusal, TellsRefusal, ModuleCause, SinkCause, MemoryCause}
+use Rattle.strand_app.specs.Command.{Command, run}
+use Rattle.strand_app.specs.Ends.{Ends}
+use Rattle.strand_app.specs.Inputs.{Inputs, bad, good, run_inputs}
+use Rattle.strand_app.specs.RunAnswer.{good_answer, inputs_answer, state_after, words_of_state}
+use Rattle.strand_app.specs.Runs.{Runs, CommandMakes, GivesUp}
+use Rattle.strand_app.specs.World.{World, Fault, absent, fetch, fill, step, read, step_and_read, FetchFails, ShownByFiles}
+
+-- which statuses an answer has
+not_words : (i : Inputs) (f : Fault) → (inputs_answer i f).status ≡ status.Words → ⊥
+unfolding inputs_answer good_answer
+not_words (bad k) absent e = cc
+not_words (bad k) (fetch j) e = cc
+not_words (bad k) (fill m) e = cc
+not_words (bad k) (step j m) e = cc
+not_words (bad k) (read m) e = cc
+not_words (bad k) (step_and_read j m n) e = cc
+not_words (good p steps) absent e = cc
+not_words (good p steps) (fetch j) e = cc
+not_words (good p steps) (fill m) e = cc
+not_words (good p steps) (step j m) e = cc
+not_words (good p steps) (read m) e = cc
+not_words (good p steps) (step_and_read j m n) e = cc
+
+not_sink : (i : Inputs) (f : Fault) → (inputs_answer i f).status ≡ status.SinkFault → ⊥
+unfolding inputs_answer good_answer
+not_sink (bad k) absent e = cc
+not_sink (bad k) (fetch j) e = cc
+not_sink (bad k) (fill m) e = cc
+not_sink (bad k) (step j m) e = cc
+not_sink (bad k) (read m) e = cc
+not_sink (bad k) (step_and_read j m n) e = cc
+not_sink (good p steps) absent e = cc
+not_sink (good p steps) (fetch j) e = cc
+not_sink (good p steps) (fill m) e = cc
+not_sink (good p steps) (step j m) e = cc
+not_sink (good p steps) (read m) e = cc
+not_sink (good p steps) (step_and_read j m n) e = cc
+
+not_memory : (i : Inputs) (f : Fault) → (inputs_answer i f).status ≡ status.Memory → ⊥
+unfolding inputs_answer good_answer
+not_memory (bad k) absent e = cc
+not_memory (bad k) (fetch j) e = cc
+not_memory (bad k) (fill m) e = cc
+not_memory (bad k) (step j m) e = cc
+not_memory (bad k) (read m) e = cc
+not_memory (bad k) (step_and_read j m n) e = cc
+not_memory (good p steps) absent e = cc
+not_memory (good p steps) (fetch j) e = cc
+not_memory (good p steps) (fill m) e = cc
+not_memory (good p steps) (step j m) e = cc
+not_memory (good p steps) (read m) e = cc
+not_memory (good p steps) (step_and_read j m n) e = cc
+
+-- a file fault is the answer to a failed fetch
+of_fetch : (i : Inputs) (f : Fault) → (inputs_answer i f).status ≡ status.FileFault → (k : ℕ) × (f ≡ fetch k) × ((inputs_answer i f).text ≡ file_fault k)
+unfolding inputs_answer good_answer
+of_fetch (bad k) absent e = cc
+of_fetch (bad k) (fetch j) e = (j, refl, refl)
+of_fetch (bad k) (fill m) e = cc
+of_fetch (bad k) (step j m) e = cc
+of_fetch (bad k) (read m) e = cc
+of_fetch (bad k) (step_and_read j m n) e = cc
+of_fetch (good p steps) absent e = cc
+of_fetch (good p steps) (fetch j) e = (j, refl, refl)
+of_fetch (good p steps) (fill m) e = cc
+of_fetch (good p steps) (step j m) e = cc
+of_fetch (good p steps) (read m) e = cc
+of_fetch (good p steps) (step_and_read j m n) e = cc
+
+-- the last of four parts of a text
+last_part : (a b c d : List ℕ) → (front : List ℕ) × (a ++ (b ++ (c ++ d)) ≡ front ++ d)
+last_part a b c d = (a ++ (b ++ c), ap (λ (l : List ℕ). a ++ l) (sym (append_assoc b c d)) ∙ sym (append_assoc a (b ++ c) d))
+
+-- a report ends with the line of the refused step
+refused_step : (stop : ℕ) (cores : List Core) (held : List ℕ) (fault : StepFault) → (front : List ℕ) × (run_text stop cores held (Some fault) ≡ front ++ step_fault fault.«module» fault.step)
+refused_step stop cores held fault = last_part (stop_line stop) (numbered core_lines cores) (held_lines held) (step_fault fault.«module» fault.step)
+
+-- a module fault is the answer to a refusal
+of_refusal : (i : Inputs) (f : Fault) → (inputs_answer i f).status ≡ status.ModuleFault → IsRefusal f × TellsRefusal f (inputs_answer i f).text
+unfolding inputs_answer good_answer
+of_refusal (bad k) absent e = cc
+of_refusal (bad k) (fetch j) e = cc
+of_refusal (bad k) (fill m) e = cc
+of_refusal (bad k) (step j m) e = cc
+of_refusal (bad k) (read m) e = cc
+of_refusal (bad k) (step_and_read j m n) e = cc
+of_refusal (good p steps) absent e = cc
+of_refusal (good p steps) (fetch j) e = cc
+of_refusal (good p steps) (fill m) e = (tt, refl)
+of_refusal (good p steps) (step j m) e =
+    let made = take (j - 1) steps in
+    let s = state_after p made in (tt, refused_step (length made) s.now.cores (words_of_state p s) (record { «module» = m; step = j }))
+of_refusal (good p steps) (read m) e = (tt, refl)
+of_refusal (good p steps) (step_and_read j m n) e = (tt, refl)
+
+pub on_told : {A : Type 0} {P Q : Type 0} (o : Option A) → (P → Q) → OnSome o P → OnSome o Q
+on_told None f p = tt
+on_told (Some x) f p = f p
+
+module _ (before after : World) (sink sink' : SinkSeen) (result : Status) where
+  -- the whole text was put, with the command's own status
+  pub record Put (command : Option Command) : Type 0 where
+    pub text : List ℕ
+    pub made : CommandMakes command before after result text
+    pub taken : Takes sink.taken sink'.taken text
+
+  -- what a command makes has neither of these statuses
+  own_sink : (command : Option Command) (text : List ℕ) → CommandMakes command before after status.SinkFault text → ⊥
+  own_sink None text made = let e = made.0 in cc
+  own_sink (Some (run m i s stop)) text made = not_sink (run_inputs before.bank.size stop made.contents) made.fault (sym made.status)
+
+  own_memory : (command : Option Command) (text : List ℕ) → CommandMakes command before after status.Memory text → ⊥
+  own_memory None text made = let e = made.0 in cc
+  own_memory (Some (run m i s stop)) text made = not_memory (run_inputs before.bank.size stop made.contents) made.fault (sym made.status)
+
+  gave_up : (command : Option Command) → GivesUp command before after sink sink' result → result ≡ status.Memory
+  gave_up None up = absurd up
+  gave_up (Some command) up = up.0
+
+  pub put_of : (command : Option Command) → Runs command before after sink sink' result → (result ≡ status.Memory → ⊥) → (result ≡ status.SinkFault → ⊥) → Put command
+  put_of command (inl up) memory sink_fault = absurd (memory (gave_up command up))
+  put_of command (inr ends) memory sink_fault = go ends.put
+    where
+      go : Ends ends.end ends.text sink sink' result → Put command
+      go (inl puts) = record { text = ends.text; made = subst (λ (e : Status). CommandMakes command before after e ends.text) (sym puts.status) ends.made; taken = puts.taken }
+      go (inr fails) = absurd (sink_fault fails.status)
+
+  pub words_of : (command : Option Command) → result ≡ status.Words → Runs command before after sink sink' result → command ≡ None
+  words_of None e runs = refl
+  words_of (Some (run m i s stop)) e runs =
+      let put = put_of (Some (run m i s stop)) runs (λ x. let other = sym e ∙ x in cc) (λ x. let other = sym e ∙ x in cc) in
+      absurd (not_words (run_inputs before.bank.size stop put.made.contents) put.made.fault (sym put.made.status ∙ e))
+
+  pub no_command_of : (command : Option Command) → command ≡ None → Runs command before after sink sink' result → Ends status.Words words_fault sink sink' result
+  no_command_of (Some command) e runs = cc
+  no_command_of None e (inl up) = absurd up
+  no_command_of None e (inr ends) = rw (ends.made.0, ends.made.1) at ends.put
+
+  pub memory_of : (command : Option Command) → result ≡ status.Memory → Runs command before after sink sink' result → MemoryCause command sink sink'
+  memory_of None e (inl up) = absurd up
+  memory_of (Some command) e (inl up) = (refl, up.1)
+  memory_of command e (inr ends) = go ends.put
+    where
+      go : Ends ends.end ends.text sink sink' result → MemoryCause command sink sink'
+      go (inl puts) = absurd (own_memory command ends.text (subst (λ (s : Status). CommandMakes command before after s ends.text) (sym puts.status ∙ e) ends.made))
+      go (inr fails) = let other = sym e ∙ fails.status in cc
+
+  pub sink_of : (command : Option Command) → result ≡ status.SinkFault → Runs command before after sink sink' result → SinkCause command before after sink sink' result
+  sink_of command e (inl up) = let other = sym e ∙ gave_up command up in cc
+  sink_of command e (inr ends) = go ends.put
+    where
+      go : Ends ends.end ends.text sink sink' result → SinkCause command before after sink sink' result
+      go (inl puts) = absurd (own_sink command ends.text (subst (λ (s : Status). CommandMakes command before after s ends.text) (sym puts.status ∙ e) ends.made))
+      go (inr fails) = record { end = ends.end; text = ends.text; made = ends.made; fails = fails }
+
+  shown_fetch : (names : List (List ℕ)) (f : Fault) (k : ℕ) → f ≡ fetch k → ShownByFiles names before.files after.files f → FetchFails names before.files after.files k
+  shown_fetch names f k e shown = subst (λ (g : Fault). ShownByFiles names before.files after.files g) e shown
+
+  pub file_of : (command : Option Command) → result ≡ status.FileFault → Runs command before after sink sink' result → FileCause command before after sink sink'
+  file_of command e runs = go command (put_of command runs (λ x. let other = sym e ∙ x in cc) (λ x. let other = sym e ∙ x in cc))
+    where
+      go : (command : Option Command) → Put command → FileCause command before after sink sink'
+      go None put = let other = sym e ∙ put.made.0 in cc
+      go (Some (run m i s stop)) put =
+          let inputs = run_inputs before.bank.size stop put.made.contents in
+          let cause = of_fetch inputs put.made.fault (sym put.made.status ∙ e) in
+          record {
+            file = cause.0;
+            fails = shown_fetch (m ∷ i ∷ s ∷ []) put.made.fault cause.0 cause.1 put.made.shown_by_files;
+            line = on_told before.bank.told (λ (same : put.text ≡ (inputs_answer inputs put.made.fault).text). subst (λ (t : List ℕ). Takes sink.taken sink'.taken t) (same ∙ cause.2) put.taken) put.made.text;
+          }
+
+  pub module_of : (command : Option Command) → result ≡ status.ModuleFault → Runs command before after sink sink' result → ModuleCause before after sink sink'
+  module_of command e runs = go command (put_of command runs (λ x. let other = sym e ∙ x in cc) (λ x. let other = sym e ∙ x in cc))
+    where
+      go : (command : Option Command) → Put command → ModuleCause before after sink sink'
+      go None put = let other = sym e ∙ put.made.0 in cc
+      go (Some (run m i s stop)) put =
+          let inputs = run_inputs before.bank.size stop put.made.contents in
+          let cause = of_refusal inputs put.made.fault (sym put.made.status ∙ e) in
+          record {
+            fault = put.made.fault;
+            is_refusal = cause.0;
+            shown = put.made.shown_by_bank;
+            text = put.text;
+            tells = on_told before.bank.told (λ (same : put.text ≡ (inputs_answer inputs put.made.fault).text). subst (λ (t : List ℕ). TellsRefusal put.made.fault t) (sym same) cause.1) put.made.text;
+            taken = put.taken;
+          }
