@@ -72,8 +72,8 @@ write_stands s k count next_durable bank bank' more next inside address stored =
     let value = value_at s.now.trace k in
     let image = persistent_image words s.now.trace (durable_set s) in
     stored ∙ ap (λ (t : Option (List ℕ)). written t place value) stands
-        ∙ written_front image base place value (omega (arith, inside, same, image_length words s.now.trace (durable_set s)))
-        ∙ ap (λ (xs : List ℕ). front_written xs base) (sym (ap (λ (d : ℕ). persistent_image words s.now.trace (first_persists s.now.trace d)) more ∙ image_stored words s.now.trace s.durable k next (omega (arith, inside, same)) address))
+    ∙ written_front image base place value (omega (arith, inside, same, image_length words s.now.trace (durable_set s)))
+    ∙ ap (λ (xs : List ℕ). front_written xs base) (sym (ap (λ (d : ℕ). persistent_image words s.now.trace (first_persists s.now.trace d)) more ∙ image_stored words s.now.trace s.durable k next (omega (arith, inside, same)) address))
 
 pub same_stands : (count : ℕ) (s : State) (bank bank' : BankSeen) → bank'.told ≡ bank.told → StandsOn count s s bank bank'
 same_stands count s bank bank' same = λ words base long stands. same ∙ stands

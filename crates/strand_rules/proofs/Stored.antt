@@ -48,8 +48,8 @@ module _ (t : List Event) (e : Event) (count : ℕ) (initial : ℕ → ℕ) (w :
   image_kept le =
       let more : length (t ++ e ∷ []) ≡ suc (length t) = omega (arith, length-append t (e ∷ [])) in
       ap (λ n. image_below (t ++ e ∷ []) (first_persists (t ++ e ∷ []) count) initial n w) more
-          ∙ image_no (t ++ e ∷ []) (first_persists (t ++ e ∷ []) count) initial (length t) w (new_waits le)
-          ∙ below_kept (length t) (omega arith)
+      ∙ image_no (t ++ e ∷ []) (first_persists (t ++ e ∷ []) count) initial (length t) w (new_waits le)
+      ∙ below_kept (length t) (omega arith)
 
 -- Persist k is the next one, number `count`.
 module _ (t : List Event) (count k : ℕ) (next : slice_get (persists_of t) count ≡ Some k) (initial : ℕ → ℕ) where
@@ -96,7 +96,7 @@ module _ (t : List Event) (count k : ℕ) (next : slice_get (persists_of t) coun
   image_there (suc n) w lt e = elim (cases_order n k) [
     | inl same ↦
         let here : sets_word t (first_persists t (suc count)) w k ≡ true =
-          and_from (event_is is_persist t k && first_persists t (suc count) k) (word_at t k == w) (and_from (event_is is_persist t k) (first_persists t (suc count) k) is_next.1 at_next) (eq-eqb (word_at t k) w e) in
+        and_from (event_is is_persist t k && first_persists t (suc count) k) (word_at t k == w) (and_from (event_is is_persist t k) (first_persists t (suc count) k) is_next.1 at_next) (eq-eqb (word_at t k) w e) in
         ap (λ m. image_below t (first_persists t (suc count)) initial (suc m) w) same ∙ image_yes t (first_persists t (suc count)) initial k w here
     | inr apart ↦ elim apart [
       | inl before ↦ absurd (omega (arith, lt, before))
@@ -139,7 +139,7 @@ image_stored words t count k next inside address =
     (λ i. image t (first_persists t (suc count)) initial (address_of i))
     0 (length words) (place_of (word_at t k)) (value_at t k) inside
     (let zero_more : 0 + place_of (word_at t k) ≡ place_of (word_at t k) = omega arith in
-      rw zero_more (image_there t count k next initial (length t) (address_of (place_of (word_at t k))) r.0 address))
+    rw zero_more (image_there t count k next initial (length t) (address_of (place_of (word_at t k))) r.0 address))
     (λ j ne. image_elsewhere t count k next initial (address_of j) (λ e. ne (omega (arith, e))))
 
 pub image_more : (words : List ℕ) (t : List Event) (e : Event) (count : ℕ) → count ≤ length (persists_of t)

@@ -20,12 +20,11 @@ pub fn durable_sets_are_allowed()
         → HoldsJoined (run p (start_at cores memory) steps).now.trace (durable_set (run p (start_at cores memory) steps)) }
     ensures seen { (p : Program) (cores : List Core) (memory : Memory) (steps : List Step)
         → (run p (start_at cores memory) steps).now
-            ≡ visible p (start_at cores memory).now (run p (start_at cores memory) steps).retired }
+        ≡ visible p (start_at cores memory).now (run p (start_at cores memory) steps).retired }
     ensures grows { (words : List ℕ) (t : List Event) (e : Event) (count : ℕ) → count ≤ length (persists_of t)
         → persistent_image words (t ++ e ∷ []) (first_persists (t ++ e ∷ []) count) ≡ persistent_image words t (first_persists t count) }
     ensures stores { (words : List ℕ) (t : List Event) (count k : ℕ) → slice_get (persists_of t) count ≡ Some k
         → place_of (word_at t k) < length words → word_at t k ≡ address_of (place_of (word_at t k))
         → persistent_image words t (first_persists t (suc count))
-            ≡ slice_set (persistent_image words t (first_persists t count)) (place_of (word_at t k)) (value_at t k) }
-{
-}
+        ≡ slice_set (persistent_image words t (first_persists t count)) (place_of (word_at t k)) (value_at t k) }
+{}

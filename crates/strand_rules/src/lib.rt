@@ -15,6 +15,3 @@ pub use plain_machine::PlainMachine;
 pub use ram_module::RamModule;
 pub use refusals::{AtModule, Refusals};
 pub use turn::{Cause, Turn};
-
-#[cfg(test)]
-mod tests;
