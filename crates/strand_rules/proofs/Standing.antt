@@ -1,23 +1,21 @@
 -- A step leaves a bank that stood for the state standing for the state after it.
-use Rattle.std.proofs.Common.{◌≡◌, ℕ, zero, suc, ◌+◌, ◌<◌, ◌≤◌, Bool, true, false, List, [], ◌∷◌, ◌++◌, length, map, set, take, drop, refl, sym, ap, ◌∙◌, arith, length-set, subst, inl, inr}
-use Rattle.std.specs.Prelude.{None, Some, Ok, Err, slice_get, slice_set}
+use Rattle.std.proofs.Common.{◌≡◌, ℕ, zero, suc, ◌<◌, ◌≤◌, List, [], ◌∷◌, ◌++◌, length, set, drop, refl, sym, ap, ◌∙◌, arith, length-set}
+use Rattle.std.specs.Prelude.{None, Some, slice_get, slice_set}
 use Rattle.std.specs.declared.option.Option.{Option}
 use Rattle.std.proofs.lemmas.List.FromFn.{length-map-range_with_len}
 use Rattle.strand_base.specs.ModuleSeen.{written}
 use Rattle.strand_inputs.specs.declared.step.Step.TheVariants as steps
 use Rattle.strand_exec.specs.Core.{Core}
 use Rattle.strand_exec.specs.declared.planned.Plan.{Plan}
-use Rattle.strand_exec.specs.declared.planned.Plan.TheVariants as plans
 use Rattle.strand_events.specs.declared.event.Event.{Event}
 use Rattle.strand_events.specs.Trace.{word_at, value_at, persists_of}
 use Rattle.strand_events.specs.Order.{Set}
-use Rattle.strand_rules.specs.declared.refusals.AtModule.{AtModule}
 use Rattle.strand_rules.specs.declared.turn.Turn.{Turn}
 use Rattle.strand_rules.specs.declared.turn.Turn.TheVariants.{Done, Bubble, Fault}
-use Rattle.strand_rules.specs.Bank.{BankSeen, Stores, store_refused, front_written}
-use Rattle.strand_rules.specs.Visible.{Program, Visible, grown, event_of, acted, plan_by, plan_in, moved_by, moved_in, retire}
-use Rattle.strand_rules.specs.Cycle.{State, first_persists, durable_set, some_waits, plan_turn, core_turn, after_turn, place_of, address_of, persistent_image, waiting_at}
-use Rattle.strand_rules.specs.Machine.{Machine, Stands, StandsOn, stepped}
+use Rattle.strand_rules.specs.Bank.{BankSeen, front_written}
+use Rattle.strand_rules.specs.Visible.{Program, grown, event_of, acted, plan_by, plan_in, moved_by, moved_in, retire}
+use Rattle.strand_rules.specs.Cycle.{State, first_persists, durable_set, some_waits, plan_turn, core_turn, after_turn, place_of, address_of, persistent_image}
+use Rattle.strand_rules.specs.Machine.{Machine, StandsOn, stepped}
 use Rattle.strand_rules.specs.Kept.{IsKept}
 use Rattle.strand_rules.proofs.Stored.{image_more, image_stored}
 

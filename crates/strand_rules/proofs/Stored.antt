@@ -1,19 +1,16 @@
 -- What the image of the durable set becomes when the trace grows and when the oldest waiting persist becomes durable.
-use Rattle.std.proofs.Common.{◌≡◌, ◌≢◌, ℕ, zero, suc, ◌+◌, ◌-◌, ◌*◌, ◌/◌, ◌<◌, ◌≤◌, Bool, true, false, ◌&&◌, List, [], ◌∷◌, ◌++◌, length, map, set, get_or, refl, sym, ap, ◌∙◌, arith, inl, inr, length-append}
-use Rattle.std.specs.Prelude.{nat_lt, ◌==◌, slice_get, slice_set, slice_index, Some, None}
-use Rattle.std.specs.List.{range_with_len, AllByRecursion}
-use Rattle.std.specs.declared.option.Option.{Option}
-use Rattle.std.proofs.lemmas.Bool.{cases_Bool, cases_eq, cases_order, and_parts, and_from, ltb-true, lt-ltb, le-ltb, true≢false, false≢true, eq-eqb, eqb-true, ne_eqb}
+use Rattle.std.proofs.Common.{◌≡◌, ℕ, zero, suc, ◌+◌, ◌<◌, ◌≤◌, Bool, true, false, ◌&&◌, List, [], ◌∷◌, ◌++◌, length, map, set, refl, sym, ap, ◌∙◌, arith, inl, inr, length-append}
+use Rattle.std.specs.Prelude.{nat_lt, ◌==◌, slice_get, slice_set, slice_index, Some}
+use Rattle.std.specs.List.{range_with_len}
+use Rattle.std.proofs.lemmas.Bool.{cases_order, and_from, lt-ltb, le-ltb, eq-eqb}
 use Rattle.strand_base.specs.Counting.{count_below}
-use Rattle.strand_base.proofs.Counting.{count_agree, count_mono, count_strict, get_more, get_last, list_get, list_length}
+use Rattle.strand_base.proofs.Counting.{count_agree, count_strict, get_more, list_get, list_length}
 use Rattle.strand_events.specs.declared.event.Event.{Event}
-use Rattle.strand_events.specs.declared.event.Event.TheVariants.{Load, Store, Barrier, NewStrand, Join, Out}
 use Rattle.strand_events.specs.Trace.{is_persist, event_is, word_at, value_at, value_in, persists_of}
-use Rattle.strand_events.specs.Order.{Set, sets_word, image_below, image}
+use Rattle.strand_events.specs.Order.{sets_word, image_below, image}
 use Rattle.strand_events.proofs.Prefix.{event_is_kept, word_kept}
 use Rattle.strand_events.proofs.Images.{image_yes, image_no, image_alike}
 use Rattle.strand_rules.specs.Cycle.{first_persists, place_of, address_of, persistent_image}
-use Rattle.strand_rules.specs.Kept.{IsPlaced}
 use Rattle.strand_rules.proofs.Allowed.{first_kept}
 
 -- rank: how many persists stand before event k

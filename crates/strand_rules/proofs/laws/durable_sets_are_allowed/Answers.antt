@@ -1,4 +1,3 @@
-use Rattle.std.proofs.Common.{refl}
 use Rattle.strand_inputs.specs.declared.mode.Mode.TheVariants.{Strict}
 use Rattle.strand_rules.specs.Cycle.{run, start_at}
 use Rattle.strand_rules.proofs.Allowed.{first_closed, run_good, start_good}

@@ -1,4 +1,4 @@
-use Rattle.std.proofs.Common.{arith, length, length-set, subst, sym, ap, ◌∙◌}
+use Rattle.std.proofs.Common.{arith, length-set, subst, sym, ap, ◌∙◌}
 use Rattle.strand_exec.specs.Plan.{IsPlaced}
 use Rattle.strand_rules.specs.Machine.{Machine, Runs, machine_of, retired_in}
 use Rattle.strand_rules.proofs.Keeping.{kept_after, retired_machine}
