@@ -1,5 +1,5 @@
 -- What the image of the durable set becomes when the trace grows and when the oldest waiting persist becomes durable.
-use Rattle.std.proofs.Common.{◌≡◌, ℕ, zero, suc, ◌+◌, ◌<◌, ◌≤◌, Bool, true, false, ◌&&◌, List, [], ◌∷◌, ◌++◌, length, map, set, refl, sym, ap, ◌∙◌, arith, inl, inr, length-append}
+use Rattle.std.proofs.Common.{◌≡◌, ℕ, zero, suc, ◌+◌, ◌<◌, ◌≤◌, Bool, true, false, ◌&&◌, List, [], ◌∷◌, ◌++◌, length, map, set, get_or, refl, sym, ap, ◌∙◌, arith, inl, inr, length-append}
 use Rattle.std.specs.Prelude.{nat_lt, ◌==◌, slice_get, slice_set, slice_index, Some}
 use Rattle.std.specs.List.{range_with_len}
 use Rattle.std.proofs.lemmas.Bool.{cases_order, and_from, lt-ltb, le-ltb, eq-eqb}
@@ -7,7 +7,7 @@ use Rattle.strand_base.specs.Counting.{count_below}
 use Rattle.strand_base.proofs.Counting.{count_agree, count_strict, get_more, list_get, list_length}
 use Rattle.strand_events.specs.declared.event.Event.{Event}
 use Rattle.strand_events.specs.Trace.{is_persist, event_is, word_at, value_at, value_in, persists_of}
-use Rattle.strand_events.specs.Order.{sets_word, image_below, image}
+use Rattle.strand_events.specs.Order.{Set, sets_word, image_below, image}
 use Rattle.strand_events.proofs.Prefix.{event_is_kept, word_kept}
 use Rattle.strand_events.proofs.Images.{image_yes, image_no, image_alike}
 use Rattle.strand_rules.specs.Cycle.{first_persists, place_of, address_of, persistent_image}
@@ -148,3 +148,15 @@ image_more words t e count le = alike_map (range_with_len 0 (length words))
         ≡ map (λ i. image t (first_persists t count) (λ word. slice_index words (place_of word)) (address_of i)) is
     alike_map [] = refl
     alike_map (i ∷ is) = rw (image_kept t e count (λ word. slice_index words (place_of word)) (address_of i) le) (ap (λ l. image t (first_persists t count) (λ word. slice_index words (place_of word)) (address_of i) ∷ l) (alike_map is))
+
+-- Before the first event the image is the initial words.
+pub image_begins : (words : List ℕ) (set : Set) → persistent_image words [] set ≡ words
+unfolding persistent_image
+image_begins words set = go words 0 (λ i. slice_index words (place_of (address_of i))) (λ i lt. let place : place_of (address_of (0 + i)) ≡ i = omega arith in ap (λ j. slice_index words j) place)
+  where
+    go : (xs : List ℕ) (a : ℕ) (f : ℕ → ℕ) → ((i : ℕ) → i < length xs → f (a + i) ≡ get_or xs i 0) → map f (range_with_len a (length xs)) ≡ xs
+    go [] a f h = refl
+    go (x ∷ xs) a f h =
+        let first : a + 0 ≡ a = omega arith in
+        let head : f a ≡ x = ap f (sym first) ∙ h 0 (omega arith) in
+        rw head (ap (λ l. x ∷ l) (go xs (a + 1) f (λ i lt. let place : a + 1 + i ≡ a + suc i = omega arith in ap f place ∙ h (suc i) (omega (arith, lt)))))
