@@ -1,8 +1,8 @@
 -- The durable set is allowed after every list of steps, and what the programs see is the visible run.
-use Rattle.std.proofs.Common.{◌≡◌, ℕ, zero, suc, ◌+◌, ◌<◌, ◌≤◌, Bool, true, false, ◌&&◌, List, [], ◌∷◌, ◌++◌, length, refl, sym, ap, ◌∙◌, arith, inl, inr, length-append}
+use Rattle.std.proofs.Common.{◌≡◌, ℕ, suc, ◌<◌, ◌≤◌, Bool, true, false, List, [], ◌∷◌, ◌++◌, length, refl, sym, ap, ◌∙◌, arith, inl, inr, length-append}
 use Rattle.std.specs.Prelude.{nat_lt, slice_get, Some, None}
 use Rattle.std.specs.declared.option.Option.{Option}
-use Rattle.std.proofs.lemmas.Bool.{cases_Bool, cases_order, and_parts, and_from, ltb-true, lt-ltb, le-ltb, true≢false}
+use Rattle.std.proofs.lemmas.Bool.{cases_order, and_parts, and_from, ltb-true, lt-ltb, true≢false}
 use Rattle.strand_base.specs.Counting.{count_below}
 use Rattle.strand_base.proofs.Counting.{count_agree, count_mono, count_strict, get_last, list_length}
 use Rattle.strand_inputs.specs.declared.mode.Mode.{Mode}
@@ -20,8 +20,8 @@ use Rattle.strand_events.proofs.Prefix.{event_is_kept, core_kept}
 use Rattle.strand_events.proofs.Epochs.{direct_parts, between_parts, between_from}
 use Rattle.strand_rules.specs.declared.turn.Turn.{Turn}
 use Rattle.strand_rules.specs.declared.turn.Turn.TheVariants.{Done, Bubble, Fault}
-use Rattle.strand_rules.specs.Visible.{Program, Visible, plan_by, plan_in, acted, moved_by, moved_in, retire, visible, grown, event_of}
-use Rattle.strand_rules.specs.Cycle.{State, first_persists, durable_set, some_waits, plan_turn, core_turn, write_turn, waiting_at, turn, done_after, after_turn, after, run, start_at}
+use Rattle.strand_rules.specs.Visible.{Program, Visible, plan_by, plan_in, acted, moved_by, moved_in, retire, visible}
+use Rattle.strand_rules.specs.Cycle.{State, first_persists, durable_set, some_waits, plan_turn, core_turn, write_turn, waiting_at, turn, after_turn, after, run, start_at}
 
 before_later : (mode : Mode) (t : List Event) (xs : List ℕ) (a b : ℕ) → Leads mode t a xs b → a < b
 before_later mode t [] a b h = (direct_parts mode t a b h).0

@@ -1,11 +1,10 @@
 -- A step keeps what a machine keeps.
-use Rattle.std.proofs.Common.{◌≡◌, ℕ, zero, suc, ◌+◌, ◌-◌, ◌*◌, ◌/◌, ◌%◌, ◌<◌, ◌≤◌, Bool, true, false, List, [], ◌∷◌, ◌++◌, length, get_or, refl, sym, ap, ◌∙◌, arith, inl, inr, length-append, length-set}
-use Rattle.std.specs.Prelude.{nat_le, nat_lt, ◌⊎◌, Some, None, slice_get, slice_set}
+use Rattle.std.proofs.Common.{◌≡◌, ℕ, zero, suc, ◌+◌, ◌<◌, ◌≤◌, Bool, true, false, List, [], ◌∷◌, ◌++◌, length, get_or, refl, sym, ap, ◌∙◌, arith, inl, inr, length-append, length-set}
+use Rattle.std.specs.Prelude.{nat_lt, Some, None, slice_get, slice_set}
 use Rattle.std.specs.List.{AllByRecursion}
 use Rattle.std.specs.declared.option.Option.{Option}
-use Rattle.std.proofs.lemmas.Bool.{cases_Bool, leb-true, and_parts}
+use Rattle.std.proofs.lemmas.Bool.{cases_Bool, leb-true}
 use Rattle.std.proofs.lemmas.Option.{none-some, same_Some, get_or_from_slice_get}
-use Rattle.strand_base.specs.Counting.{count_below}
 use Rattle.strand_base.proofs.Counting.{count_agree, count_mono, list_length, list_get}
 use Rattle.strand_exec.specs.Arith.{merged}
 use Rattle.strand_exec.specs.Core.{Core, Extents}

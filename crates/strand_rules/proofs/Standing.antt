@@ -1,23 +1,21 @@
 -- A step leaves a bank that stood for the state standing for the state after it.
-use Rattle.std.proofs.Common.{◌≡◌, ℕ, zero, suc, ◌+◌, ◌<◌, ◌≤◌, Bool, true, false, List, [], ◌∷◌, ◌++◌, length, map, set, take, drop, refl, sym, ap, ◌∙◌, arith, length-set, subst, inl, inr}
-use Rattle.std.specs.Prelude.{None, Some, Ok, Err, slice_get, slice_set}
+use Rattle.std.proofs.Common.{◌≡◌, ℕ, zero, suc, ◌<◌, ◌≤◌, List, [], ◌∷◌, ◌++◌, length, set, drop, refl, sym, ap, ◌∙◌, arith, length-set}
+use Rattle.std.specs.Prelude.{None, Some, slice_get, slice_set}
 use Rattle.std.specs.declared.option.Option.{Option}
 use Rattle.std.proofs.lemmas.List.FromFn.{length-map-range_with_len}
 use Rattle.strand_base.specs.ModuleSeen.{written}
 use Rattle.strand_inputs.specs.declared.step.Step.TheVariants as steps
 use Rattle.strand_exec.specs.Core.{Core}
 use Rattle.strand_exec.specs.declared.planned.Plan.{Plan}
-use Rattle.strand_exec.specs.declared.planned.Plan.TheVariants as plans
 use Rattle.strand_events.specs.declared.event.Event.{Event}
 use Rattle.strand_events.specs.Trace.{word_at, value_at, persists_of}
 use Rattle.strand_events.specs.Order.{Set}
-use Rattle.strand_rules.specs.declared.refusals.AtModule.{AtModule}
 use Rattle.strand_rules.specs.declared.turn.Turn.{Turn}
 use Rattle.strand_rules.specs.declared.turn.Turn.TheVariants.{Done, Bubble, Fault}
-use Rattle.strand_rules.specs.Bank.{BankSeen, Stores, store_refused, front_written}
-use Rattle.strand_rules.specs.Visible.{Program, Visible, grown, event_of, acted, plan_by, plan_in, moved_by, moved_in, retire}
-use Rattle.strand_rules.specs.Cycle.{State, first_persists, durable_set, some_waits, plan_turn, core_turn, after_turn, place_of, address_of, persistent_image, waiting_at}
-use Rattle.strand_rules.specs.Machine.{Machine, Stands, StandsOn, stepped}
+use Rattle.strand_rules.specs.Bank.{BankSeen, front_written}
+use Rattle.strand_rules.specs.Visible.{Program, grown, event_of, acted, plan_by, plan_in, moved_by, moved_in, retire}
+use Rattle.strand_rules.specs.Cycle.{State, first_persists, durable_set, some_waits, plan_turn, core_turn, after_turn, place_of, address_of, persistent_image}
+use Rattle.strand_rules.specs.Machine.{Machine, StandsOn, stepped}
 use Rattle.strand_rules.specs.Kept.{IsKept}
 use Rattle.strand_rules.proofs.Stored.{image_more, image_stored}
 
@@ -72,8 +70,8 @@ write_stands s k count next_durable bank bank' more next inside address stored =
     let value = value_at s.now.trace k in
     let image = persistent_image words s.now.trace (durable_set s) in
     stored ∙ ap (λ (t : Option (List ℕ)). written t place value) stands
-        ∙ written_front image base place value (omega (arith, inside, same, image_length words s.now.trace (durable_set s)))
-        ∙ ap (λ (xs : List ℕ). front_written xs base) (sym (ap (λ (d : ℕ). persistent_image words s.now.trace (first_persists s.now.trace d)) more ∙ image_stored words s.now.trace s.durable k next (omega (arith, inside, same)) address))
+    ∙ written_front image base place value (omega (arith, inside, same, image_length words s.now.trace (durable_set s)))
+    ∙ ap (λ (xs : List ℕ). front_written xs base) (sym (ap (λ (d : ℕ). persistent_image words s.now.trace (first_persists s.now.trace d)) more ∙ image_stored words s.now.trace s.durable k next (omega (arith, inside, same)) address))
 
 pub same_stands : (count : ℕ) (s : State) (bank bank' : BankSeen) → bank'.told ≡ bank.told → StandsOn count s s bank bank'
 same_stands count s bank bank' same = λ words base long stands. same ∙ stands

@@ -1,19 +1,16 @@
 -- What the image of the durable set becomes when the trace grows and when the oldest waiting persist becomes durable.
-use Rattle.std.proofs.Common.{◌≡◌, ◌≢◌, ℕ, zero, suc, ◌+◌, ◌-◌, ◌*◌, ◌/◌, ◌<◌, ◌≤◌, Bool, true, false, ◌&&◌, List, [], ◌∷◌, ◌++◌, length, map, set, get_or, refl, sym, ap, ◌∙◌, arith, inl, inr, length-append}
-use Rattle.std.specs.Prelude.{nat_lt, ◌==◌, slice_get, slice_set, slice_index, Some, None}
-use Rattle.std.specs.List.{range_with_len, AllByRecursion}
-use Rattle.std.specs.declared.option.Option.{Option}
-use Rattle.std.proofs.lemmas.Bool.{cases_Bool, cases_eq, cases_order, and_parts, and_from, ltb-true, lt-ltb, le-ltb, true≢false, false≢true, eq-eqb, eqb-true, ne_eqb}
+use Rattle.std.proofs.Common.{◌≡◌, ℕ, zero, suc, ◌+◌, ◌<◌, ◌≤◌, Bool, true, false, ◌&&◌, List, [], ◌∷◌, ◌++◌, length, map, set, get_or, refl, sym, ap, ◌∙◌, arith, inl, inr, length-append}
+use Rattle.std.specs.Prelude.{nat_lt, ◌==◌, slice_get, slice_set, slice_index, Some}
+use Rattle.std.specs.List.{range_with_len}
+use Rattle.std.proofs.lemmas.Bool.{cases_order, and_from, lt-ltb, le-ltb, eq-eqb}
 use Rattle.strand_base.specs.Counting.{count_below}
-use Rattle.strand_base.proofs.Counting.{count_agree, count_mono, count_strict, get_more, get_last, list_get, list_length}
+use Rattle.strand_base.proofs.Counting.{count_agree, count_strict, get_more, list_get, list_length}
 use Rattle.strand_events.specs.declared.event.Event.{Event}
-use Rattle.strand_events.specs.declared.event.Event.TheVariants.{Load, Store, Barrier, NewStrand, Join, Out}
 use Rattle.strand_events.specs.Trace.{is_persist, event_is, word_at, value_at, value_in, persists_of}
 use Rattle.strand_events.specs.Order.{Set, sets_word, image_below, image}
 use Rattle.strand_events.proofs.Prefix.{event_is_kept, word_kept}
 use Rattle.strand_events.proofs.Images.{image_yes, image_no, image_alike}
 use Rattle.strand_rules.specs.Cycle.{first_persists, place_of, address_of, persistent_image}
-use Rattle.strand_rules.specs.Kept.{IsPlaced}
 use Rattle.strand_rules.proofs.Allowed.{first_kept}
 
 -- rank: how many persists stand before event k
@@ -48,8 +45,8 @@ module _ (t : List Event) (e : Event) (count : ℕ) (initial : ℕ → ℕ) (w :
   image_kept le =
       let more : length (t ++ e ∷ []) ≡ suc (length t) = omega (arith, length-append t (e ∷ [])) in
       ap (λ n. image_below (t ++ e ∷ []) (first_persists (t ++ e ∷ []) count) initial n w) more
-          ∙ image_no (t ++ e ∷ []) (first_persists (t ++ e ∷ []) count) initial (length t) w (new_waits le)
-          ∙ below_kept (length t) (omega arith)
+      ∙ image_no (t ++ e ∷ []) (first_persists (t ++ e ∷ []) count) initial (length t) w (new_waits le)
+      ∙ below_kept (length t) (omega arith)
 
 -- Persist k is the next one, number `count`.
 module _ (t : List Event) (count k : ℕ) (next : slice_get (persists_of t) count ≡ Some k) (initial : ℕ → ℕ) where
@@ -96,7 +93,7 @@ module _ (t : List Event) (count k : ℕ) (next : slice_get (persists_of t) coun
   image_there (suc n) w lt e = elim (cases_order n k) [
     | inl same ↦
         let here : sets_word t (first_persists t (suc count)) w k ≡ true =
-          and_from (event_is is_persist t k && first_persists t (suc count) k) (word_at t k == w) (and_from (event_is is_persist t k) (first_persists t (suc count) k) is_next.1 at_next) (eq-eqb (word_at t k) w e) in
+        and_from (event_is is_persist t k && first_persists t (suc count) k) (word_at t k == w) (and_from (event_is is_persist t k) (first_persists t (suc count) k) is_next.1 at_next) (eq-eqb (word_at t k) w e) in
         ap (λ m. image_below t (first_persists t (suc count)) initial (suc m) w) same ∙ image_yes t (first_persists t (suc count)) initial k w here
     | inr apart ↦ elim apart [
       | inl before ↦ absurd (omega (arith, lt, before))
@@ -139,7 +136,7 @@ image_stored words t count k next inside address =
     (λ i. image t (first_persists t (suc count)) initial (address_of i))
     0 (length words) (place_of (word_at t k)) (value_at t k) inside
     (let zero_more : 0 + place_of (word_at t k) ≡ place_of (word_at t k) = omega arith in
-      rw zero_more (image_there t count k next initial (length t) (address_of (place_of (word_at t k))) r.0 address))
+    rw zero_more (image_there t count k next initial (length t) (address_of (place_of (word_at t k))) r.0 address))
     (λ j ne. image_elsewhere t count k next initial (address_of j) (λ e. ne (omega (arith, e))))
 
 pub image_more : (words : List ℕ) (t : List Event) (e : Event) (count : ℕ) → count ≤ length (persists_of t)
@@ -151,3 +148,15 @@ image_more words t e count le = alike_map (range_with_len 0 (length words))
         ≡ map (λ i. image t (first_persists t count) (λ word. slice_index words (place_of word)) (address_of i)) is
     alike_map [] = refl
     alike_map (i ∷ is) = rw (image_kept t e count (λ word. slice_index words (place_of word)) (address_of i) le) (ap (λ l. image t (first_persists t count) (λ word. slice_index words (place_of word)) (address_of i) ∷ l) (alike_map is))
+
+-- Before the first event the image is the initial words.
+pub image_begins : (words : List ℕ) (set : Set) → persistent_image words [] set ≡ words
+unfolding persistent_image
+image_begins words set = go words 0 (λ i. slice_index words (place_of (address_of i))) (λ i lt. let place : place_of (address_of (0 + i)) ≡ i = omega arith in ap (λ j. slice_index words j) place)
+  where
+    go : (xs : List ℕ) (a : ℕ) (f : ℕ → ℕ) → ((i : ℕ) → i < length xs → f (a + i) ≡ get_or xs i 0) → map f (range_with_len a (length xs)) ≡ xs
+    go [] a f h = refl
+    go (x ∷ xs) a f h =
+        let first : a + 0 ≡ a = omega arith in
+        let head : f a ≡ x = ap f (sym first) ∙ h 0 (omega arith) in
+        rw head (ap (λ l. x ∷ l) (go xs (a + 1) f (λ i lt. let place : a + 1 + i ≡ a + suc i = omega arith in ap f place ∙ h (suc i) (omega (arith, lt)))))

@@ -13,7 +13,6 @@ use Rattle.strand_exec.specs.declared.planned.Plan.TheVariants as plans
 use Rattle.strand_events.specs.declared.event.Event.{Event}
 use Rattle.strand_events.specs.Trace.{is_persist, event_is, word_at, value_at, persists_of}
 use Rattle.strand_events.specs.Order.{Set, image}
-use Rattle.strand_rules.specs.declared.turn.Cause.{Cause}
 use Rattle.strand_rules.specs.declared.turn.Cause.TheVariants as causes
 use Rattle.strand_rules.specs.declared.turn.Turn.{Turn}
 use Rattle.strand_rules.specs.declared.turn.Turn.TheVariants.{Done, Bubble, Fault}

@@ -1,7 +1,6 @@
 -- The plain machine as contracts see it, and what a step leaves of it and of the bank.
-use Rattle.std.specs.Prelude.{◌≡◌, ℕ, ◌+◌, ◌*◌, ◌<◌, ◌≤◌, List, [], ◌∷◌, ◌++◌, length, map, slice_get, Some, None, Ok, Err}
+use Rattle.std.specs.Prelude.{◌≡◌, ℕ, ◌+◌, List, [], ◌∷◌, ◌++◌, length, map, slice_get, Some, None, Ok, Err}
 use Rattle.std.specs.declared.option.Option.{Option}
-use Rattle.std.specs.declared.result.Result.{Result}
 use Rattle.strand_image.specs.Parts.{Parts}
 use Rattle.strand_inputs.specs.declared.step.Step.{Step}
 use Rattle.strand_inputs.specs.declared.step.Step.TheVariants.{Core, Dispatch, Send, Write}
@@ -12,11 +11,10 @@ use Rattle.strand_exec.specs.Memory.{Memory}
 use Rattle.strand_exec.specs.Plan.{plan_of, IsPlaced}
 use Rattle.strand_exec.specs.declared.planned.Plan.{Plan}
 use Rattle.strand_exec.specs.declared.life.Life.TheVariants.{Running}
-use Rattle.strand_rules.specs.declared.refusals.AtModule.{AtModule}
 use Rattle.strand_rules.specs.declared.turn.Turn.{Turn}
 use Rattle.strand_rules.specs.declared.turn.Turn.TheVariants.{Done, Bubble, Fault}
 use Rattle.strand_rules.specs.Bank.{BankSeen, Stores, store_refused, front_written}
-use Rattle.strand_rules.specs.Visible.{Program, Visible, retire}
+use Rattle.strand_rules.specs.Visible.{Program, retire}
 use Rattle.strand_rules.specs.Cycle.{State, Request, turn, after, waiting_at, request_of, start_at, persistent_image, durable_set}
 
 -- a machine's program and state, how many steps it made, and for how many it has room

@@ -1,5 +1,5 @@
 -- The visible run: the instruction table, applied to cores in turn over one flat memory.
-use Rattle.std.specs.Prelude.{ℕ, ◌-◌, ◌^◌, List, [], ◌∷◌, ◌++◌, slice_get, slice_set, bit_and, bit_or, Some, None}
+use Rattle.std.specs.Prelude.{ℕ, List, [], ◌∷◌, ◌++◌, slice_get, slice_set, Some, None}
 use Rattle.std.specs.declared.option.Option.{Option}
 use Rattle.strand_exec.specs.Arith.{merged}
 use Rattle.strand_exec.specs.Core.{Core, Extents}

@@ -10,11 +10,8 @@ mod refusals;
 mod turn;
 
 pub use bank::ModuleBank;
-pub use laws::durable_sets_are_allowed;
+pub use laws::{durable_sets_are_allowed, images_follow_the_trace};
 pub use plain_machine::PlainMachine;
 pub use ram_module::RamModule;
 pub use refusals::{AtModule, Refusals};
 pub use turn::{Cause, Turn};
-
-#[cfg(test)]
-mod tests;

@@ -1,6 +1,7 @@
 ghost use Rattle.std.specs.Prelude.{◌≡◌, ◌<◌, ◌≤◌, ◌+◌, ◌^◌, ℕ, true, IfOk, IfSome, Some, All, map, length, slice_get};
 ghost use Rattle.strand_exec.specs.Memory.{extents_of};
 ghost use Rattle.strand_exec.specs.Plan.{IsPlaced};
+ghost use Rattle.strand_rules.specs.Bank.{Keeps};
 ghost use Rattle.strand_rules.specs.Visible.{event_of, memory_after, loaded, grown, next_plan};
 ghost use Rattle.strand_rules.specs.Cycle.{turn, plan_turn, place_of};
 ghost use Rattle.strand_rules.specs.Kept.{IsKept};
@@ -14,7 +15,9 @@ use std::alloc::Global;
 use std::marker::Model;
 use strand_base::OutOfMemory;
 use strand_events::{Event, Trace};
-use strand_exec::{CoreState, FlatMemory, Life, PERSISTENT_BASE, Plan, Sizes, finish, merged, plan};
+use strand_exec::{
+    CoreState, FlatMemory, Life, PERSISTENT_BASE, Plan, Sizes, finish, merged, plan,
+};
 use strand_image::Image;
 use strand_inputs::Step;
 
@@ -154,11 +157,15 @@ impl PlainMachine {
     }
 
     /// Makes a step. It takes no memory. A fault comes only where the bank refused the step's store, and
-    /// then nothing else changed. A bank that stood for the state before stands for the state after it.
+    /// then nothing else changed. A bank that stood for the state before stands for the state after it, whatever
+    /// the turn.
     pub fn step(&mut self, step: Step, bank: &mut ModuleBank) -> Turn
         requires room { self.old.made < self.old.steps }
         requires bank { self.old.program.sizes.persistent ≤ bank.old.size }
         ensures turn { Steps self.old self.new bank.old bank.new step result }
+        ensures program { self.new.program ≡ self.old.program }
+        ensures steps { (self.new.steps ≡ self.old.steps) × (self.new.made ≤ self.old.made + 1) }
+        ensures kept { Keeps bank.old bank.new }
         ensures stands { StandsOn self.old.program.sizes.persistent self.old.state self.new.state bank.old bank.new }
     {
         match step {
@@ -224,6 +231,9 @@ impl PlainMachine {
         requires room { self.old.made < self.old.steps }
         requires bank { self.old.program.sizes.persistent ≤ bank.old.size }
         ensures turn { Steps self.old self.new bank.old bank.new (Write j) result }
+        ensures program { self.new.program ≡ self.old.program }
+        ensures steps { (self.new.steps ≡ self.old.steps) × (self.new.made ≤ self.old.made + 1) }
+        ensures kept { Keeps bank.old bank.new }
         ensures stands { StandsOn self.old.program.sizes.persistent self.old.state self.new.state bank.old bank.new }
     {
         if j >= self.trace.persists() - self.durable {

@@ -1,4 +1,4 @@
-use Rattle.std.proofs.Common.{arith, length, sym, ◌≡◌, ◌<◌}
+use Rattle.std.proofs.Common.{arith, length}
 use Rattle.std.proofs.lemmas.Option.{slice_get-get_or}
 use Rattle.strand_base.proofs.Counting.{list_get}
 use Rattle.strand_events.specs.Trace.{is_persist, event_is}

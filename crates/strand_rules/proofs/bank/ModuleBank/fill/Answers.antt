@@ -1,8 +1,6 @@
-use Rattle.std.proofs.Common.{◌≡◌, ◌<◌, ◌∙◌, ap, refl, arith, length, take, get_or, sym}
+use Rattle.std.proofs.Common.{◌∙◌, ap, refl, arith, get_or}
 use Rattle.std.proofs.lemmas.List.{take_all}
-use Rattle.std.specs.Prelude.{IfSome}
 use Rattle.strand_base.specs.ModuleSeen.{written}
-use Rattle.strand_rules.specs.Bank.{front_written}
 use Rattle.strand_rules.proofs.Fronts.{front_more, front_none, keeps_same, keeps_trans, refuses_after}
 use Rattle.strand_rules.proofs.bank.ModuleBank.fill.Goals as goal
 

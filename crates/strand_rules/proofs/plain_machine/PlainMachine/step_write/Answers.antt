@@ -1,8 +1,7 @@
-use Rattle.std.proofs.Common.{◌≡◌, ℕ, ◌+◌, ◌∙◌, arith, length, ap, sym, subst, add-one, refl}
-use Rattle.std.specs.Prelude.{Some, slice_get}
+use Rattle.std.proofs.Common.{◌≡◌, ℕ, ◌+◌, ◌∙◌, arith, ap, sym, subst, add-one}
 use Rattle.strand_base.specs.ModuleSeen.{written}
-use Rattle.strand_events.specs.Trace.{persists_of, word_at, value_at}
-use Rattle.strand_rules.specs.Cycle.{place_of, address_of, State}
+use Rattle.strand_events.specs.Trace.{word_at, value_at}
+use Rattle.strand_rules.specs.Cycle.{place_of}
 use Rattle.strand_rules.specs.Machine.{Machine, machine_of, StandsOn}
 use Rattle.strand_rules.proofs.Standing.{write_stands}
 use Rattle.strand_rules.proofs.Keeping.{request_known}
