@@ -1,11 +1,10 @@
 -- An image was run on a bank: the fill, the steps, the read at the end.
-use Rattle.std.proofs.Common.{◌≡◌, ℕ, suc, ◌+◌, ◌-◌, ◌<◌, ◌≤◌, List, [], ◌∷◌, ◌++◌, length, take, drop, map, get_or, refl, sym, ap, ◌∙◌, arith, inr, subst}
-use Rattle.std.specs.Prelude.{None, Some, Ok, Err, IfOk, OnErr, IfSome, OnSome, slice_index, slice_get}
+use Rattle.std.proofs.Common.{◌≡◌, ℕ, ◌-◌, ◌<◌, ◌≤◌, List, [], ◌++◌, length, take, drop, refl, sym, ap, ◌∙◌, arith, inr, subst}
+use Rattle.std.specs.Prelude.{None, Some, Ok, Err, IfOk, OnErr, IfSome, OnSome, slice_get}
 use Rattle.std.specs.declared.result.Result.{Result}
 use Rattle.strand_base.specs.declared.out_of_memory.OutOfMemory.{OutOfMemory}
 use Rattle.strand_app.specs.declared.status.Made.{Made}
 use Rattle.std.specs.declared.option.Option.{Option}
-use Rattle.std.specs.List.{range_with_len}
 use Rattle.std.proofs.lemmas.List.{length-take-le, take_all}
 use Rattle.std.proofs.Math.Seq.{take-append_seam}
 use Rattle.std.proofs.lemmas.List.FromFn.{length-map-range_with_len}
@@ -19,27 +18,16 @@ use Rattle.strand_report.specs.declared.fault_lines.StepFault.{StepFault}
 use Rattle.strand_rules.specs.Bank.{BankSeen, Keeps, Fills, Refuses, store_refused, read_refused, fill_refused, front_written}
 use Rattle.strand_rules.specs.declared.refusals.Refusals.{Refusals}
 use Rattle.strand_rules.specs.Visible.{Program}
-use Rattle.strand_rules.specs.Cycle.{State, run, place_of, address_of, first_persists, persistent_image}
+use Rattle.strand_rules.specs.Cycle.{State, run, first_persists, persistent_image}
 use Rattle.strand_rules.specs.Machine.{Machine, machine_at, program_of, start_of}
 use Rattle.strand_rules.proofs.Fronts.{keeps_trans, refuses_after}
+use Rattle.strand_rules.proofs.Stored.{image_begins}
 use Rattle.strand_app.specs.declared.status.Status.{Status}
 use Rattle.strand_app.specs.declared.status.Status.TheVariants as status
 use Rattle.strand_app.specs.World.{absent, step, read, step_and_read, fill}
 use Rattle.strand_app.specs.RunAnswer.{state_after, words_of_state, report_of, good_answer, NextStores, StoresAt, StandsAfter, MayLeaveGood}
 use Rattle.strand_app.specs.Making.{MakesOnBank, Gives, status_of, steps_before}
 use Rattle.strand_app.specs.Stepping.{MakesSteps, StepsTo}
-
--- The image of no durable persists is the initial words.
-pub image_none : (words : List ℕ) → persistent_image words [] (first_persists [] 0) ≡ words
-unfolding persistent_image
-image_none words = listed (λ i. slice_index words (place_of (address_of i))) 0 words (λ k lt. let same : place_of (address_of (0 + k)) ≡ k = omega arith in ap (λ (i : ℕ). get_or words i 0) same)
-  where
-    listed : (f : ℕ → ℕ) (a : ℕ) (xs : List ℕ) → ((k : ℕ) → k < length xs → f (a + k) ≡ get_or xs k 0) → map f (range_with_len a (length xs)) ≡ xs
-    listed f a [] all = refl
-    listed f a (x ∷ xs) all =
-        let first : a + 0 ≡ a = omega arith in
-        let head : f a ≡ x = ap f (sym first) ∙ all 0 (omega arith) in
-        rw head (ap (λ (l : List ℕ). x ∷ l) (listed f (a + 1) xs (λ k lt. let next : a + 1 + k ≡ a + suc k = omega arith in ap f next ∙ all (suc k) (omega (arith, lt)))))
 
 image_length : (p : Parts) (s : State) → length (words_of_state p s) ≡ length p.persistent
 unfolding persistent_image
@@ -85,7 +73,7 @@ module _ (p : Parts) (steps : List Step) (m0 m1 : Machine) (b0 b1 b2 b3 : BankSe
       record {
         to = again.steps_to;
         kept = keeps_trans b0 b1 b2 fills.kept again.kept;
-        stands = again.stands p.persistent b0.told refl (fills.done ∙ ap (λ (words : List ℕ). front_written words b0.told) (sym (image_none p.persistent)));
+        stands = again.stands p.persistent b0.told refl (fills.done ∙ ap (λ (words : List ℕ). front_written words b0.told) (sym (image_begins p.persistent (first_persists [] 0))));
       }
 
   -- the words were read
