@@ -10,6 +10,8 @@ mod run;
 mod running;
 mod status;
 mod stepping;
+#[cfg(test)]
+mod tests;
 mod top;
 
 pub use status::{Made, Status};
