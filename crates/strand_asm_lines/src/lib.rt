@@ -16,3 +16,6 @@ pub use line::{Body, Line, Operand, Pattern, Section};
 pub use mnemonic::Mnemonic;
 pub use name::Name;
 pub use reading::read_line;
+
+#[cfg(test)]
+mod tests;

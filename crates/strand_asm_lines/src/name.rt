@@ -2,11 +2,12 @@ ghost use Rattle.std.specs.Prelude.{◌≡◌, IsTrue, IfOk};
 ghost use Rattle.strand_asm_lines.specs.Token.{is_name};
 
 use std::alloc::Global;
+use std::fmt;
 use std::marker::Model;
 use strand_base::OutOfMemory;
 
 /// A name: letters, digits and `_`, not beginning with a digit, which the type keeps.
-#[derive(Debug, Drop)]
+#[derive(Drop)]
 pub struct Name {
     bytes: Vec<u8>,
 }
@@ -44,5 +45,11 @@ impl Name {
             Ok(text) => text,
             Err(_) => "",
         }
+    }
+}
+
+impl fmt::Debug for Name {
+    fn fmt<W: fmt::Write>(&self, f: &mut fmt::Formatter<W>) -> fmt::Result {
+        fmt::Debug::fmt(self.as_str(), f)
     }
 }
