@@ -1,5 +1,5 @@
 -- A line of assembler text: its label and what stands behind it, or its first fault.
-use Rattle.std.specs.Prelude.{◌≡◌, ℕ, ℤ, pos, negsuc, ◌||◌, nat_lt, nat_le, if◌then◌else◌, List, [], ◌∷◌, length, Option, Some, None, Result, Ok, Err}
+use Rattle.std.specs.Prelude.{◌≡◌, ℕ, ◌<◌, ℤ, pos, negsuc, ◌||◌, nat_lt, nat_le, if◌then◌else◌, List, [], ◌∷◌, length, Option, Some, None, Result, Ok, Err}
 use Rattle.std.specs.List.{before_first, list_all}
 use Rattle.std.specs.Option.{option_map, option_and_then, ok_or}
 use Rattle.std.specs.Str.{bytes_eq}
@@ -130,6 +130,25 @@ line_of text = do
   parts ← ok_or (parts_of (content_of text)) BadToken
   body ← body_of parts.1
   Ok (record { label = parts.0; body = body })
+
+-- the registers of a line are x0 to x31
+abbrev pub HasRegister : Operand → Type 0
+HasRegister operands.Absent = Unit {0}
+HasRegister (operands.Reg n) = n < 32
+HasRegister (operands.Num n) = Unit {0}
+HasRegister (operands.Label name) = Unit {0}
+HasRegister (operands.Mem offset base) = base < 32
+
+abbrev pub HasRegistersOf : Body → Type 0
+HasRegistersOf bodies.Empty = Unit {0}
+HasRegistersOf (bodies.Section section) = Unit {0}
+HasRegistersOf (bodies.Entry target) = HasRegister target
+HasRegistersOf (bodies.Word number) = Unit {0}
+HasRegistersOf (bodies.Space number) = Unit {0}
+HasRegistersOf (bodies.Code pattern) = HasRegister pattern.first × HasRegister pattern.second × HasRegister pattern.third
+
+abbrev pub HasRegisters : Line → Type 0
+HasRegisters line = HasRegistersOf line.body
 
 -- What a function returned is what was read, unless memory ran out; a fault has the line's number.
 abbrev pub Gives : {X : Type 0} → ℕ → Result X LineError → Result X LineKind → Type 0

@@ -1,9 +1,9 @@
-ghost use Rattle.std.specs.Prelude.{◌≡◌, IfSome, IsTrue};
+ghost use Rattle.std.specs.Prelude.{◌≡◌, IfOk, IfSome, IsTrue};
 ghost use Rattle.std.specs.Option.{option_map};
 ghost use Rattle.strand_asm_lines.specs.Table.{row};
 ghost use Rattle.strand_asm_lines.specs.Bytes.{pieces, operand_texts};
 ghost use Rattle.strand_asm_lines.specs.Token.{is_name};
-ghost use Rattle.strand_asm_lines.specs.Line.{counted, head_of, instruction_of, directive_of, body_by, body_of, labelled, parts_of, line_of, Gives};
+ghost use Rattle.strand_asm_lines.specs.Line.{counted, head_of, instruction_of, directive_of, body_by, body_of, labelled, parts_of, line_of, HasRegisters, Gives};
 
 use crate::bytes::{
     after_blanks, are_plain, comma_count, cut, has_empty, operand_at, split_at_blank,
@@ -198,7 +198,8 @@ fn parts(text: &[u8]) -> Option<(Option<&[u8]>, &[u8])>
 /// and then that of its first operand that has one. `OutOfMemory` is want of memory.
 #[tactic(auto, unfolding(crate::specs::Line::line_of))]
 pub fn read_line(alloc: Global, text: &[u8], line: u32) -> Result<Line, LineError>
-    ensures { Gives line result (line_of text.now) }
+    ensures gives { Gives line result (line_of text.now) }
+    ensures registers { IfOk result HasRegisters }
 {
     let Some((label, rest)) = parts(content(text)) else {
         return Err(fault(line, LineKind::BadToken));
