@@ -1,0 +1,4 @@
+pub mod Bytes
+pub mod Token
+pub mod Table
+pub mod Line
