@@ -1,9 +1,9 @@
 -- Which persists are dispatched where an item is the first of its core's queue.
-use Rattle.std.proofs.Common.{◌≡◌, ℕ, zero, suc, ◌+◌, ◌<◌, ◌≤◌, Bool, true, false, ◌&&◌, ◌||◌, List, length, refl, sym, ap, ◌∙◌, arith, inl, inr}
-use Rattle.std.specs.Prelude.{not, nat_lt, slice_get, Some, None, ◌==◌}
-use Rattle.std.proofs.lemmas.Bool.{cases_eq, and_from, or_left, eqb-true, lt-ltb, le-ltb, true≢false}
+use Rattle.std.proofs.Common.{◌≡◌, ℕ, zero, suc, ◌<◌, ◌≤◌, Bool, true, false, ◌&&◌, ◌||◌, List, length, refl, sym, ap, ◌∙◌, arith, inl, inr}
+use Rattle.std.specs.Prelude.{not, nat_lt, Some, ◌==◌}
+use Rattle.std.proofs.lemmas.Bool.{cases_eq, and_from, or_left, lt-ltb, le-ltb, true≢false}
 use Rattle.strand_base.specs.Counting.{count_below, any_below}
-use Rattle.strand_base.proofs.Counting.{at_or_below, any_agree, count_agree, count_flat, list_get, count_strict, count_mono}
+use Rattle.strand_base.proofs.Counting.{any_agree, count_agree, count_flat, list_get, count_strict, count_mono}
 use Rattle.strand_inputs.specs.Settings.{Settings}
 use Rattle.strand_inputs.specs.declared.mode.Mode.{Mode}
 use Rattle.strand_inputs.specs.declared.mode.Mode.TheVariants.{Strict, Epoch, Strand}

@@ -1,6 +1,6 @@
 -- Marks by event number, and the marks of the persists among them.
 use Rattle.std.proofs.Common.{◌≡◌, ℕ, zero, suc, ◌<◌, ◌≤◌, Bool, true, false, List, [], ◌∷◌, ◌++◌, length, map, refl, sym, ap, subst, ◌∙◌, arith, inl, inr}
-use Rattle.std.specs.Prelude.{slice_index_or, slice_set, Some, None}
+use Rattle.std.specs.Prelude.{slice_set, Some, None}
 use Rattle.std.specs.declared.option.Option.{Option}
 use Rattle.std.proofs.Math.Seq.{set-append_seam}
 use Rattle.std.proofs.lemmas.Bool.{cases_Bool, cases_eq, true≢false}
@@ -8,7 +8,7 @@ use Rattle.std.proofs.lemmas.List.{map-append, length-map, get_or-set_same, get_
 use Rattle.strand_base.specs.Counting.{count_below, list_below}
 use Rattle.strand_base.proofs.Counting.{at_or_below, count_strict, list_length}
 use Rattle.strand_events.specs.declared.event.Event.{Event}
-use Rattle.strand_events.specs.Trace.{is_persist, event_is, persists_of, passes}
+use Rattle.strand_events.specs.Trace.{is_persist, persists_of}
 use Rattle.strand_events.specs.Order.{held}
 use Rattle.strand_events.proofs.Kept.{persists_next, persists_most}
 use Rattle.strand_rules.specs.Visible.{grown}

@@ -1,5 +1,5 @@
 -- The cycle rules: the state of a machine, the turn of a step, and the state after it.
-use Rattle.std.specs.Prelude.{ℕ, suc, ◌+◌, ◌-◌, ◌*◌, ◌/◌, ◌%◌, Bool, true, false, ◌&&◌, ◌||◌, not, ◌==◌, nat_lt, List, [], ◌∷◌, ◌++◌, slice_get, slice_index, slice_set, remove, replicate, map, length, Some, None, if◌then◌else◌}
+use Rattle.std.specs.Prelude.{ℕ, suc, ◌+◌, ◌-◌, ◌%◌, Bool, true, false, ◌&&◌, ◌||◌, not, ◌==◌, nat_lt, List, [], ◌∷◌, ◌++◌, slice_get, slice_index, slice_set, remove, replicate, length, Some, None, if◌then◌else◌}
 use Rattle.std.specs.declared.option.Option.{Option}
 use Rattle.strand_base.specs.Counting.{count_below, list_below, any_below}
 use Rattle.strand_inputs.specs.Settings.{Settings}

@@ -1,5 +1,5 @@
 -- What a machine keeps: the room it took, its regions' sizes, and what its marks and requests name.
-use Rattle.std.specs.Prelude.{◌≡◌, ℕ, ◌^◌, ◌<◌, ◌≤◌, true, List, length, slice_index, vec_capacity}
+use Rattle.std.specs.Prelude.{◌≡◌, ℕ, ◌^◌, ◌<◌, ◌≤◌, true, length, slice_index, vec_capacity}
 use Rattle.std.specs.List.{AllByRecursion}
 use Rattle.strand_events.specs.Trace.{is_persist, event_is}
 use Rattle.strand_events.specs.Order.{held}

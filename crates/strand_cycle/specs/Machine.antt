@@ -1,5 +1,5 @@
 -- The machine as contracts see it, and what a step leaves of it and of the bank.
-use Rattle.std.specs.Prelude.{◌≡◌, ℕ, ◌+◌, ◌<◌, Bool, List, length, map, slice_get, Some, None}
+use Rattle.std.specs.Prelude.{◌≡◌, ℕ, ◌+◌, Bool, List, length, map, slice_get, Some, None}
 use Rattle.std.specs.declared.option.Option.{Option}
 use Rattle.strand_image.specs.Parts.{Parts}
 use Rattle.strand_inputs.specs.Settings.{Settings}

@@ -1,4 +1,4 @@
-use Rattle.std.proofs.Common.{◌≡◌, ◌≤◌, ◌∙◌, length, sym, ap, arith}
+use Rattle.std.proofs.Common.{◌≡◌, ◌∙◌, length, sym, ap, arith}
 use Rattle.std.specs.Prelude.{slice_get}
 use Rattle.strand_base.specs.Counting.{count_below}
 use Rattle.strand_events.specs.Trace.{core_event_is}

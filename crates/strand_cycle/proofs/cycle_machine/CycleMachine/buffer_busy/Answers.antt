@@ -1,4 +1,4 @@
-use Rattle.std.proofs.Common.{◌≡◌, ◌≤◌, ◌+◌, ◌%◌, ◌∙◌, arith, length, sym, ap, subst}
+use Rattle.std.proofs.Common.{◌≡◌, ◌+◌, ◌%◌, ◌∙◌, arith, length, sym, ap, subst}
 use Rattle.std.specs.Prelude.{Some}
 use Rattle.strand_base.specs.Counting.{any_below}
 use Rattle.strand_inputs.specs.Settings.{Settings}

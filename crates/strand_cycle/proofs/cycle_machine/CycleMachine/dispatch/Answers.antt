@@ -1,5 +1,5 @@
-use Rattle.std.proofs.Common.{◌≡◌, ◌<◌, ◌≤◌, ◌+◌, ◌∙◌, arith, length, true, refl, sym, ap, subst}
-use Rattle.std.specs.Prelude.{Some, slice_set, slice_index, if◌then◌else◌}
+use Rattle.std.proofs.Common.{◌≡◌, ◌<◌, ◌+◌, ◌∙◌, arith, true, sym, ap, subst}
+use Rattle.std.specs.Prelude.{Some, slice_set, if◌then◌else◌}
 use Rattle.strand_events.specs.Trace.{event_is, is_persist}
 use Rattle.strand_cycle.specs.Cycle.{gone, front, item_after}
 use Rattle.strand_cycle.specs.Machine.{Machine, made_to}

@@ -1,4 +1,4 @@
-use Rattle.std.proofs.Common.{◌≡◌, ◌∙◌, [], ap}
+use Rattle.std.proofs.Common.{◌∙◌, [], ap}
 use Rattle.std.specs.Prelude.{slice_get}
 use Rattle.strand_inputs.specs.Settings.{Settings}
 use Rattle.strand_cycle.specs.Cycle.{eligible}

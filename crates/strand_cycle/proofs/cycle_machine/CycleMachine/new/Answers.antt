@@ -1,5 +1,4 @@
-use Rattle.std.proofs.Common.{ℕ, ◌≡◌, ◌<◌, ◌≤◌, length, map, arith, sym, ap, refl, ◌∙◌}
-use Rattle.std.specs.Prelude.{[]}
+use Rattle.std.proofs.Common.{◌≡◌, length, map, arith, sym, ap, refl, ◌∙◌}
 use Rattle.std.proofs.lemmas.List.{length-map, length-replicate}
 use Rattle.strand_exec.specs.Core.{fresh}
 use Rattle.strand_events.specs.Order.{held}

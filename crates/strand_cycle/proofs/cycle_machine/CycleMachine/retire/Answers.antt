@@ -1,4 +1,4 @@
-use Rattle.std.proofs.Common.{◌≡◌, ◌≤◌, ◌<◌, arith, length, length-set, map, subst, sym, ap, refl, ◌∙◌}
+use Rattle.std.proofs.Common.{◌≡◌, ◌<◌, arith, length, length-set, map, subst, sym, ap, ◌∙◌}
 use Rattle.strand_exec.specs.Plan.{IsPlaced}
 use Rattle.strand_rules.specs.Visible.{event_of, grown}
 use Rattle.strand_cycle.specs.Cycle.{core_after}
