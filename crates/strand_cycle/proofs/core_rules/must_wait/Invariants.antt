@@ -1,0 +1,8 @@
+use Rattle.std.proofs.Common.{◌≡◌}
+use Rattle.strand_base.specs.Counting.{any_below}
+use Rattle.strand_events.specs.Order.{held}
+use Rattle.strand_cycle.specs.Looking.{holds_up}
+use Rattle.strand_cycle.proofs.core_rules.must_wait.Given as goal
+
+abbrev pub invariant-loop-a : goal.invariant-loop-a
+invariant-loop-a l = l.found ≡ any_below l.a (holds_up l.mode l.trace.events (held l.durable) l.event)

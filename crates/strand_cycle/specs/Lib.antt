@@ -1,0 +1,5 @@
+pub mod Cycle
+pub mod Machine
+pub mod Run
+pub mod Looking
+pub mod Kept

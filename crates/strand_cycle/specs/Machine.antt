@@ -1,0 +1,81 @@
+-- The machine as contracts see it, and what a step leaves of it and of the bank.
+use Rattle.std.specs.Prelude.{◌≡◌, ℕ, ◌+◌, Bool, List, length, map, slice_get, Some, None}
+use Rattle.std.specs.declared.option.Option.{Option}
+use Rattle.strand_image.specs.Parts.{Parts}
+use Rattle.strand_inputs.specs.Settings.{Settings}
+use Rattle.strand_inputs.specs.declared.step.Step.{Step}
+use Rattle.strand_inputs.specs.declared.step.Step.TheVariants.{Core, Dispatch, Send, Write}
+use Rattle.strand_exec.specs.Core as cores
+use Rattle.strand_exec.specs.Core.{fresh}
+use Rattle.strand_exec.specs.Plan.{plan_of, IsPlaced}
+use Rattle.strand_exec.specs.declared.planned.Plan.{Plan}
+use Rattle.strand_exec.specs.declared.life.Life.TheVariants.{Running}
+use Rattle.strand_events.specs.Trace.{persists_of}
+use Rattle.strand_cycle.specs.declared.turn.Turn.{Turn}
+use Rattle.strand_cycle.specs.declared.turn.Turn.TheVariants.{Done, Bubble, Fault}
+use Rattle.strand_rules.specs.Bank.{BankSeen}
+use Rattle.strand_rules.specs.Cycle.{Request}
+use Rattle.strand_rules.specs.Machine.{program_of, StoresOk, StoresErr}
+use Rattle.strand_rules.specs.Visible.{Program}
+use Rattle.strand_cycle.specs.Cycle.{State, turn, after, request_of, start_at, durable_set}
+
+-- a machine's settings, program and state, how many steps it made, and for how many it has room
+pub record Machine : Type 0 where
+  pub config : Settings
+  pub program : Program
+  pub state : State
+  pub made : ℕ
+  pub steps : ℕ
+
+-- the state before the first step: each core at its entry, the memory as in the image
+abbrev pub start_of : Parts → State
+start_of p = start_at (map fresh p.entries) (record { volatile = p.volatile; persistent = p.persistent })
+
+-- the machine of an image before its first step, with room for so many
+abbrev pub machine_at : Settings → Parts → ℕ → Machine
+machine_at g p steps = record { config = g; program = program_of p; state = start_of p; made = 0; steps = steps }
+
+-- the machine after a step that was done or a bubble
+abbrev pub stepped : Machine → Step → Machine
+stepped m step = record m { state = after m.config m.program m.state step; made = m.made + 1 }
+
+-- what a step that is done stores in the bank
+abbrev pub stored_for : State → Option ℕ → Option Request
+stored_for s None = None
+stored_for s (Some k) = Some (request_of s k)
+
+abbrev pub stored_by : State → Step → Option Request
+stored_by s (Write j) = stored_for s (slice_get s.flight j)
+stored_by s (Core n) = None
+stored_by s (Dispatch n) = None
+stored_by s (Send n b j) = None
+
+-- What a step leaves. A fault comes only at a step that would have been done, where the bank refused its store.
+abbrev pub Steps : Machine → Machine → BankSeen → BankSeen → Step → Turn → Type 0
+Steps old new bank bank' step (Fault m) = (turn old.config old.program old.state step ≡ Done) × (new ≡ old) × StoresErr (stored_by old.state step) bank bank' m
+Steps old new bank bank' step (Bubble cause) = (turn old.config old.program old.state step ≡ Bubble cause) × (new ≡ stepped old step) × (bank' ≡ bank)
+Steps old new bank bank' step Done = (turn old.config old.program old.state step ≡ Done) × (new ≡ stepped old step) × StoresOk (stored_by old.state step) bank bank'
+
+-- A step changes neither the settings, the program, the room and the number of cores, nor the bank's size.
+pub record SameSetup (old new : Machine) (bank bank' : BankSeen) : Type 0 where
+  pub config : new.config ≡ old.config
+  pub program : new.program ≡ old.program
+  pub steps : new.steps ≡ old.steps
+  pub cores : length new.state.now.cores ≡ length old.state.now.cores
+  pub size : bank'.size ≡ bank.size
+
+-- whether each persist is durable, in trace order
+abbrev pub durable_persists : State → List Bool
+durable_persists s = map (durable_set s) (persists_of s.now.trace)
+
+-- Core n runs, and this is what its next instruction asks of the world.
+pub record Runs (m : Machine) (n : ℕ) (plan : Plan) : Type 0 where
+  pub core : cores.Core
+  pub there : slice_get m.state.now.cores n ≡ Some core
+  pub running : core.life ≡ Running
+  pub planned : plan ≡ plan_of core m.program.code m.program.sizes
+  pub placed : IsPlaced m.program.sizes plan
+
+-- the machine with another state after one step more
+abbrev pub made_to : Machine → State → Machine
+made_to m s = record m { state = s; made = m.made + 1 }

@@ -1,0 +1,105 @@
+// What the rules of a core's instruction find in the trace.
+ghost use Rattle.std.specs.Prelude.{◌≡◌, ◌<◌, ◌≤◌, ◌^◌, ◌++◌, [], ◌∷◌, length};
+ghost use Rattle.strand_events.specs.Order.{held};
+ghost use Rattle.strand_events.specs.Trace.{core_of};
+ghost use Rattle.strand_cycle.specs.Cycle.{some_wait, must_wait, items};
+ghost use Rattle.strand_cycle.specs.Looking.{next_strand, opposes, holds_up};
+
+use crate::event_tests::{
+    core_of, is_access, is_core_item, is_core_persist, is_new_strand, is_store, word_of,
+};
+use strand_events::{Event, Trace};
+use strand_inputs::Mode;
+
+// How many items core n made.
+pub(crate) fn item_count(events: &[Event], mode: Mode, n: u32) -> u32
+    requires { length events.now < 2 ^ 32 }
+    ensures { result ≡ length (items mode events.now n) }
+{
+    let mut count: u32 = 0;
+    for k in 0..events.len() {
+        if is_core_item(mode, events[k], n) {
+            count += 1;
+        }
+    }
+    count
+}
+
+// Whether some persist of core n among the events below an end isn't durable.
+pub(crate) fn some_wait(events: &[Event], durable: &[bool], n: u32, end: usize) -> bool
+    requires end { end ≤ length events.now }
+    requires marks { length durable.now ≡ length events.now }
+    ensures { result ≡ some_wait events.now (held durable.now) n end }
+{
+    let mut found = false;
+    for p in 0..end {
+        if is_core_persist(events[p], n) && !durable[p] {
+            found = true;
+        }
+    }
+    found
+}
+
+// The strand number of core n's next event.
+fn next_strand(events: &[Event], mode: Mode, n: u32) -> u32
+    requires { length events.now < 2 ^ 32 }
+    ensures { result ≡ next_strand mode events.now n }
+{
+    let mut count: u32 = 0;
+    if let Mode::Strand = mode {
+        for k in 0..events.len() {
+            if is_new_strand(events[k]) && core_of(events[k]) == n {
+                count += 1;
+            }
+        }
+    }
+    count
+}
+
+// Whether access `a` conflicts with the next event, which is of the given strand of its core, and is
+// of another strand.
+fn opposes(trace: &Trace, mode: Mode, event: Event, strand: u32, a: usize) -> bool
+    requires a { a < length trace.now.events }
+    requires strand { strand ≡ next_strand mode trace.now.events (core_of event) }
+    ensures { result ≡ opposes mode trace.now.events event a }
+{
+    let earlier = trace.events()[a];
+    is_access(earlier)
+        && is_access(event)
+        && word_of(earlier) == word_of(event)
+        && (is_store(earlier) || is_store(event))
+        && !(core_of(earlier) == core_of(event) && trace.strand_of(mode, a) == strand)
+}
+
+// Whether access `a` holds the next event up.
+fn holds_up(
+    trace: &Trace,
+    mode: Mode,
+    durable: &[bool],
+    event: Event,
+    strand: u32,
+    a: usize,
+) -> bool
+    requires a { a < length trace.now.events }
+    requires marks { length durable.now ≡ length trace.now.events }
+    requires strand { strand ≡ next_strand mode trace.now.events (core_of event) }
+    ensures { result ≡ holds_up mode trace.now.events (held durable.now) event a }
+{
+    opposes(trace, mode, event, strand, a)
+        && some_wait(trace.events(), durable, core_of(trace.events()[a]), a + 1)
+}
+
+// Whether an access of another strand holds the next event up.
+pub(crate) fn must_wait(trace: &Trace, mode: Mode, durable: &[bool], event: Event) -> bool
+    requires { length durable.now ≡ length trace.now.events }
+    ensures { result ≡ must_wait mode (trace.now.events ++ event ∷ []) (held durable.now) (length trace.now.events) }
+{
+    let strand = next_strand(trace.events(), mode, core_of(event));
+    let mut found = false;
+    for a in 0..trace.events().len() {
+        if holds_up(trace, mode, durable, event, strand, a) {
+            found = true;
+        }
+    }
+    found
+}

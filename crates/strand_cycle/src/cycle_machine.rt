@@ -1,0 +1,186 @@
+ghost use Rattle.std.specs.Prelude.{◌≡◌, ◌<◌, ◌≤◌, IfOk, Some, All, map, length, replicate, slice_get};
+ghost use Rattle.strand_exec.specs.Core.{fresh};
+ghost use Rattle.strand_inputs.specs.Schedule.{IsBelow};
+ghost use Rattle.strand_cycle.specs.Machine.{machine_at, made_to, durable_persists, SameSetup, Steps};
+
+use crate::{Cause, Turn};
+use std::alloc::Global;
+use std::marker::Model;
+use strand_base::OutOfMemory;
+use strand_events::Trace;
+use strand_exec::{CoreState, FlatMemory, Sizes};
+use strand_image::Image;
+use strand_inputs::{Config, Step};
+use strand_rules::ModuleBank;
+
+/// The machine that runs an image under a schedule, one step at a time, by the cycle rules
+/// (docs/cycle.md). It takes no memory after it is made, and looks back over its trace.
+#[derive(Drop)]
+pub struct CycleMachine {
+    pub(crate) config: Config,
+    pub(crate) code: Vec<u32>,
+    pub(crate) sizes: Sizes,
+    pub(crate) cores: Vec<CoreState>,
+    pub(crate) memory: FlatMemory,
+    pub(crate) trace: Trace,
+    pub(crate) retired: Vec<u32>,
+    pub(crate) dispatched: Vec<u32>,
+    pub(crate) buffered: Vec<bool>,
+    pub(crate) flight: Vec<u32>,
+    pub(crate) durable: Vec<bool>,
+    pub(crate) persisted: Vec<bool>,
+    pub(crate) made: u64,
+    pub(crate) steps: u64,
+}
+
+impl Model for CycleMachine {
+    ghost use Rattle.strand_cycle.specs.Machine.{Machine};
+
+    ghost Value = { Machine };
+
+    ghost use Rattle.strand_cycle.specs.Kept.{seen, IsHeld};
+
+    ghost view = { seen };
+
+    ghost invariant = { IsHeld };
+}
+
+impl CycleMachine {
+    /// The machine before its first step, with room for so many steps. It takes all the memory that the
+    /// run will need.
+    pub fn new(
+        alloc: Global,
+        config: &Config,
+        image: &Image,
+        steps: u64,
+    ) -> Result<CycleMachine, OutOfMemory>
+        requires { steps ≤ 200000 }
+        ensures { IfOk result (λ m. m ≡ machine_at config.now image.now steps) }
+    {
+        let room = steps as usize;
+        let sizes = Sizes {
+            volatile: image.volatile().len() as u32,
+            persistent: image.persistent().len() as u32,
+        };
+        let cores = fresh_cores(alloc, image.entries())?;
+        Ok(CycleMachine {
+            config: *config,
+            code: image.code().to_vec(alloc)?,
+            sizes,
+            memory: FlatMemory::copy(alloc, image.volatile(), image.persistent())?,
+            trace: Trace::new(alloc, room)?,
+            retired: Vec::with_capacity(alloc, room)?,
+            dispatched: zeros(alloc, cores.len())?,
+            cores,
+            buffered: Vec::with_capacity(alloc, room)?,
+            flight: Vec::with_capacity(alloc, flight_limit(config))?,
+            durable: Vec::with_capacity(alloc, room)?,
+            persisted: Vec::with_capacity(alloc, room)?,
+            made: 0,
+            steps,
+        })
+    }
+
+    /// How many steps were made: a step that is done or a bubble is one, a fault is none.
+    pub fn made(&self) -> u64
+        ensures { result ≡ self.now.made }
+    {
+        self.made
+    }
+
+    /// What the cores did so far.
+    pub fn trace(&self) -> &Trace
+        ensures { result.now.events ≡ self.now.state.now.trace }
+    {
+        &self.trace
+    }
+
+    /// The cores that retired an instruction, in turn.
+    pub fn retired(&self) -> &[u32]
+        ensures { result.now ≡ self.now.state.retired }
+    {
+        &self.retired
+    }
+
+    /// Whether each persist is durable, by the numbers of the persists.
+    pub fn durable(&self) -> &[bool]
+        ensures { result.now ≡ durable_persists self.now.state }
+    {
+        &self.persisted
+    }
+
+    /// The cores.
+    pub fn cores(&self) -> &[CoreState]
+        ensures cores { result.now ≡ self.now.state.now.cores }
+        ensures few { length result.now ≤ 4 }
+    {
+        &self.cores
+    }
+
+    /// Core n.
+    pub fn core(&self, n: u32) -> &CoreState
+        requires { n < length self.now.state.now.cores }
+        ensures { slice_get self.now.state.now.cores n ≡ Some result.now }
+    {
+        &self.cores[n as usize]
+    }
+
+    /// A copy of the memory that the cores see.
+    pub fn flatten(&self) -> Result<FlatMemory, OutOfMemory>
+        ensures { IfOk result (λ memory. memory ≡ self.now.state.now.memory) }
+    {
+        let alloc = *self.code.allocator();
+        let memory = &self.memory;
+        FlatMemory::copy(alloc, &memory.volatile, &memory.persistent)
+    }
+
+    // A step that changes nothing but the count of steps.
+    pub(crate) fn bubble(&mut self, cause: Cause) -> Turn
+        requires { self.old.made < self.old.steps }
+        ensures turn { result ≡ Turn.Bubble cause }
+        ensures machine { self.new ≡ made_to self.old self.old.state }
+    {
+        self.made += 1;
+        Turn::Bubble(cause)
+    }
+
+    /// Makes a step, for a core and a buffer of the machine. It takes no memory. A fault comes only where
+    /// the bank refused the step's store, and then nothing else changed.
+    pub fn step(&mut self, step: Step, bank: &mut ModuleBank) -> Turn
+        requires room { self.old.made < self.old.steps }
+        requires step { IsBelow (length self.old.state.now.cores) self.old.config.buffers step }
+        requires bank { self.old.program.sizes.persistent ≤ bank.old.size }
+        ensures step { Steps self.old self.new bank.old bank.new step result }
+        ensures setup { SameSetup self.old self.new bank.old bank.new }
+    {
+        match step {
+            Step::Core(n) => self.step_core(n),
+            Step::Dispatch(n) => self.step_dispatch(n),
+            Step::Send(n, b, j) => self.step_send(n, b, j),
+            Step::Write(j) => self.step_write(j, bank),
+        }
+    }
+}
+
+// The cores at their entries.
+fn fresh_cores(alloc: Global, entries: &[u32]) -> Result<Vec<CoreState>, OutOfMemory>
+    requires { All (λ e. e < 65536) entries.now }
+    ensures { IfOk result (λ cores. cores.items ≡ map fresh entries.now) }
+{
+    let cores: Vec<CoreState> = entries.iter().map(|e| CoreState::new(*e)).collect(alloc)?;
+    Ok(cores)
+}
+
+// So many zeros.
+fn zeros(alloc: Global, count: usize) -> Result<Vec<u32>, OutOfMemory>
+    ensures { IfOk result (λ zeros. zeros.items ≡ replicate count 0) }
+{
+    Ok(vec![in alloc; 0; count]?)
+}
+
+// How many requests can be in flight.
+fn flight_limit(config: &Config) -> usize
+    ensures { result ≡ config.now.flight }
+{
+    config.flight as usize
+}
