@@ -1,6 +1,6 @@
 -- The cause of each fault, read off the whole call.
 use Rattle.std.proofs.Common.{◌≡◌, ℕ, ◌-◌, List, [], ◌∷◌, ◌++◌, length, take, refl, sym, ap, ◌∙◌, inl, inr, subst}
-use Rattle.std.specs.Prelude.{Some, None, OnSome}
+use Rattle.std.specs.Prelude.{Some, None}
 use Rattle.std.specs.declared.option.Option.{Option}
 use Rattle.std.proofs.lemmas.List.{append_assoc}
 use Rattle.strand_base.specs.SinkSeen.{SinkSeen, Takes}
@@ -15,72 +15,72 @@ use Rattle.strand_app.specs.declared.status.Status.TheVariants as status
 use Rattle.strand_app.specs.Causes.{FileCause, IsRefusal, TellsRefusal, ModuleCause, SinkCause, MemoryCause}
 use Rattle.strand_app.specs.Command.{Command, run}
 use Rattle.strand_app.specs.Ends.{Ends}
-use Rattle.strand_app.specs.Inputs.{Inputs, bad, good, run_inputs}
-use Rattle.strand_app.specs.RunAnswer.{good_answer, inputs_answer, state_after, words_of_state}
+use Rattle.strand_app.specs.Inputs.{Inputs, bad, good, run_inputs, fetches_of}
+use Rattle.strand_app.specs.RunAnswer.{good_answer, inputs_answer, state_after}
 use Rattle.strand_app.specs.Runs.{Runs, CommandMakes, GivesUp}
 use Rattle.strand_app.specs.World.{World, Fault, absent, fetch, fill, step, read, step_and_read, FetchFails, ShownByFiles}
 
 -- which statuses an answer has
-not_words : (i : Inputs) (f : Fault) → (inputs_answer i f).status ≡ status.Words → ⊥
+not_words : (i : Inputs) (f : Fault) (held : List ℕ) → (inputs_answer i f held).status ≡ status.Words → ⊥
 unfolding inputs_answer good_answer
-not_words (bad k) absent e = cc
-not_words (bad k) (fetch j) e = cc
-not_words (bad k) (fill m) e = cc
-not_words (bad k) (step j m) e = cc
-not_words (bad k) (read m) e = cc
-not_words (bad k) (step_and_read j m n) e = cc
-not_words (good p steps) absent e = cc
-not_words (good p steps) (fetch j) e = cc
-not_words (good p steps) (fill m) e = cc
-not_words (good p steps) (step j m) e = cc
-not_words (good p steps) (read m) e = cc
-not_words (good p steps) (step_and_read j m n) e = cc
+not_words (bad k) absent held e = cc
+not_words (bad k) (fetch j) held e = cc
+not_words (bad k) (fill m) held e = cc
+not_words (bad k) (step j m) held e = cc
+not_words (bad k) (read m) held e = cc
+not_words (bad k) (step_and_read j m n) held e = cc
+not_words (good p steps) absent held e = cc
+not_words (good p steps) (fetch j) held e = cc
+not_words (good p steps) (fill m) held e = cc
+not_words (good p steps) (step j m) held e = cc
+not_words (good p steps) (read m) held e = cc
+not_words (good p steps) (step_and_read j m n) held e = cc
 
-not_sink : (i : Inputs) (f : Fault) → (inputs_answer i f).status ≡ status.SinkFault → ⊥
+not_sink : (i : Inputs) (f : Fault) (held : List ℕ) → (inputs_answer i f held).status ≡ status.SinkFault → ⊥
 unfolding inputs_answer good_answer
-not_sink (bad k) absent e = cc
-not_sink (bad k) (fetch j) e = cc
-not_sink (bad k) (fill m) e = cc
-not_sink (bad k) (step j m) e = cc
-not_sink (bad k) (read m) e = cc
-not_sink (bad k) (step_and_read j m n) e = cc
-not_sink (good p steps) absent e = cc
-not_sink (good p steps) (fetch j) e = cc
-not_sink (good p steps) (fill m) e = cc
-not_sink (good p steps) (step j m) e = cc
-not_sink (good p steps) (read m) e = cc
-not_sink (good p steps) (step_and_read j m n) e = cc
+not_sink (bad k) absent held e = cc
+not_sink (bad k) (fetch j) held e = cc
+not_sink (bad k) (fill m) held e = cc
+not_sink (bad k) (step j m) held e = cc
+not_sink (bad k) (read m) held e = cc
+not_sink (bad k) (step_and_read j m n) held e = cc
+not_sink (good p steps) absent held e = cc
+not_sink (good p steps) (fetch j) held e = cc
+not_sink (good p steps) (fill m) held e = cc
+not_sink (good p steps) (step j m) held e = cc
+not_sink (good p steps) (read m) held e = cc
+not_sink (good p steps) (step_and_read j m n) held e = cc
 
-not_memory : (i : Inputs) (f : Fault) → (inputs_answer i f).status ≡ status.Memory → ⊥
+not_memory : (i : Inputs) (f : Fault) (held : List ℕ) → (inputs_answer i f held).status ≡ status.Memory → ⊥
 unfolding inputs_answer good_answer
-not_memory (bad k) absent e = cc
-not_memory (bad k) (fetch j) e = cc
-not_memory (bad k) (fill m) e = cc
-not_memory (bad k) (step j m) e = cc
-not_memory (bad k) (read m) e = cc
-not_memory (bad k) (step_and_read j m n) e = cc
-not_memory (good p steps) absent e = cc
-not_memory (good p steps) (fetch j) e = cc
-not_memory (good p steps) (fill m) e = cc
-not_memory (good p steps) (step j m) e = cc
-not_memory (good p steps) (read m) e = cc
-not_memory (good p steps) (step_and_read j m n) e = cc
+not_memory (bad k) absent held e = cc
+not_memory (bad k) (fetch j) held e = cc
+not_memory (bad k) (fill m) held e = cc
+not_memory (bad k) (step j m) held e = cc
+not_memory (bad k) (read m) held e = cc
+not_memory (bad k) (step_and_read j m n) held e = cc
+not_memory (good p steps) absent held e = cc
+not_memory (good p steps) (fetch j) held e = cc
+not_memory (good p steps) (fill m) held e = cc
+not_memory (good p steps) (step j m) held e = cc
+not_memory (good p steps) (read m) held e = cc
+not_memory (good p steps) (step_and_read j m n) held e = cc
 
 -- a file fault is the answer to a failed fetch
-of_fetch : (i : Inputs) (f : Fault) → (inputs_answer i f).status ≡ status.FileFault → (k : ℕ) × (f ≡ fetch k) × ((inputs_answer i f).text ≡ file_fault k)
+of_fetch : (i : Inputs) (f : Fault) (held : List ℕ) → (inputs_answer i f held).status ≡ status.FileFault → (k : ℕ) × (f ≡ fetch k) × ((inputs_answer i f held).text ≡ file_fault k)
 unfolding inputs_answer good_answer
-of_fetch (bad k) absent e = cc
-of_fetch (bad k) (fetch j) e = (j, refl, refl)
-of_fetch (bad k) (fill m) e = cc
-of_fetch (bad k) (step j m) e = cc
-of_fetch (bad k) (read m) e = cc
-of_fetch (bad k) (step_and_read j m n) e = cc
-of_fetch (good p steps) absent e = cc
-of_fetch (good p steps) (fetch j) e = (j, refl, refl)
-of_fetch (good p steps) (fill m) e = cc
-of_fetch (good p steps) (step j m) e = cc
-of_fetch (good p steps) (read m) e = cc
-of_fetch (good p steps) (step_and_read j m n) e = cc
+of_fetch (bad k) absent held e = cc
+of_fetch (bad k) (fetch j) held e = (j, refl, refl)
+of_fetch (bad k) (fill m) held e = cc
+of_fetch (bad k) (step j m) held e = cc
+of_fetch (bad k) (read m) held e = cc
+of_fetch (bad k) (step_and_read j m n) held e = cc
+of_fetch (good p steps) absent held e = cc
+of_fetch (good p steps) (fetch j) held e = (j, refl, refl)
+of_fetch (good p steps) (fill m) held e = cc
+of_fetch (good p steps) (step j m) held e = cc
+of_fetch (good p steps) (read m) held e = cc
+of_fetch (good p steps) (step_and_read j m n) held e = cc
 
 -- the last of four parts of a text
 last_part : (a b c d : List ℕ) → (front : List ℕ) × (a ++ (b ++ (c ++ d)) ≡ front ++ d)
@@ -91,26 +91,21 @@ refused_step : (stop : ℕ) (cores : List Core) (held : List ℕ) (fault : StepF
 refused_step stop cores held fault = last_part (stop_line stop) (numbered core_lines cores) (held_lines held) (step_fault fault.«module» fault.step)
 
 -- a module fault is the answer to a refusal
-of_refusal : (i : Inputs) (f : Fault) → (inputs_answer i f).status ≡ status.ModuleFault → IsRefusal f × TellsRefusal f (inputs_answer i f).text
+of_refusal : (i : Inputs) (f : Fault) (held : List ℕ) → (inputs_answer i f held).status ≡ status.ModuleFault → IsRefusal f × TellsRefusal f (inputs_answer i f held).text
 unfolding inputs_answer good_answer
-of_refusal (bad k) absent e = cc
-of_refusal (bad k) (fetch j) e = cc
-of_refusal (bad k) (fill m) e = cc
-of_refusal (bad k) (step j m) e = cc
-of_refusal (bad k) (read m) e = cc
-of_refusal (bad k) (step_and_read j m n) e = cc
-of_refusal (good p steps) absent e = cc
-of_refusal (good p steps) (fetch j) e = cc
-of_refusal (good p steps) (fill m) e = (tt, refl)
-of_refusal (good p steps) (step j m) e =
-    let made = take (j - 1) steps in
-    let s = state_after p made in (tt, refused_step (length made) s.now.cores (words_of_state p s) (record { «module» = m; step = j }))
-of_refusal (good p steps) (read m) e = (tt, refl)
-of_refusal (good p steps) (step_and_read j m n) e = (tt, refl)
-
-pub on_told : {A : Type 0} {P Q : Type 0} (o : Option A) → (P → Q) → OnSome o P → OnSome o Q
-on_told None f p = tt
-on_told (Some x) f p = f p
+of_refusal (bad k) absent held e = cc
+of_refusal (bad k) (fetch j) held e = cc
+of_refusal (bad k) (fill m) held e = cc
+of_refusal (bad k) (step j m) held e = cc
+of_refusal (bad k) (read m) held e = cc
+of_refusal (bad k) (step_and_read j m n) held e = cc
+of_refusal (good p steps) absent held e = cc
+of_refusal (good p steps) (fetch j) held e = cc
+of_refusal (good p steps) (fill m) held e = (tt, refl)
+of_refusal (good p steps) (step j m) held e =
+    let made = take (j - 1) steps in (tt, refused_step (length made) (state_after p made).now.cores held (record { «module» = m; step = j }))
+of_refusal (good p steps) (read m) held e = (tt, refl)
+of_refusal (good p steps) (step_and_read j m n) held e = (tt, refl)
 
 module _ (before after : World) (sink sink' : SinkSeen) (result : Status) where
   -- the whole text was put, with the command's own status
@@ -122,11 +117,11 @@ module _ (before after : World) (sink sink' : SinkSeen) (result : Status) where
   -- what a command makes has neither of these statuses
   own_sink : (command : Option Command) (text : List ℕ) → CommandMakes command before after status.SinkFault text → ⊥
   own_sink None text made = let e = made.0 in cc
-  own_sink (Some (run m i s stop)) text made = not_sink (run_inputs before.bank.size stop made.contents) made.fault (sym made.status)
+  own_sink (Some (run m i s stop)) text made = not_sink (run_inputs before.bank.size stop made.contents) made.fault made.held (sym made.status)
 
   own_memory : (command : Option Command) (text : List ℕ) → CommandMakes command before after status.Memory text → ⊥
   own_memory None text made = let e = made.0 in cc
-  own_memory (Some (run m i s stop)) text made = not_memory (run_inputs before.bank.size stop made.contents) made.fault (sym made.status)
+  own_memory (Some (run m i s stop)) text made = not_memory (run_inputs before.bank.size stop made.contents) made.fault made.held (sym made.status)
 
   gave_up : (command : Option Command) → GivesUp command before after sink sink' result → result ≡ status.Memory
   gave_up None up = absurd up
@@ -144,7 +139,7 @@ module _ (before after : World) (sink sink' : SinkSeen) (result : Status) where
   words_of None e runs = refl
   words_of (Some (run m i s stop)) e runs =
       let put = put_of (Some (run m i s stop)) runs (λ x. let other = sym e ∙ x in cc) (λ x. let other = sym e ∙ x in cc) in
-      absurd (not_words (run_inputs before.bank.size stop put.made.contents) put.made.fault (sym put.made.status ∙ e))
+      absurd (not_words (run_inputs before.bank.size stop put.made.contents) put.made.fault put.made.held (sym put.made.status ∙ e))
 
   pub no_command_of : (command : Option Command) → command ≡ None → Runs command before after sink sink' result → Ends status.Words words_fault sink sink' result
   no_command_of (Some command) e runs = cc
@@ -168,8 +163,8 @@ module _ (before after : World) (sink sink' : SinkSeen) (result : Status) where
       go (inl puts) = absurd (own_sink command ends.text (subst (λ (s : Status). CommandMakes command before after s ends.text) (sym puts.status ∙ e) ends.made))
       go (inr fails) = record { end = ends.end; text = ends.text; made = ends.made; fails = fails }
 
-  shown_fetch : (names : List (List ℕ)) (f : Fault) (k : ℕ) → f ≡ fetch k → ShownByFiles names before.files after.files f → FetchFails names before.files after.files k
-  shown_fetch names f k e shown = subst (λ (g : Fault). ShownByFiles names before.files after.files g) e shown
+  shown_fetch : (names contents : List (List ℕ)) (n : ℕ) (f : Fault) (k : ℕ) → f ≡ fetch k → ShownByFiles names contents n before.files after.files f → FetchFails names contents before.files after.files k
+  shown_fetch names contents n f k e shown = subst (λ (g : Fault). ShownByFiles names contents n before.files after.files g) e shown
 
   pub file_of : (command : Option Command) → result ≡ status.FileFault → Runs command before after sink sink' result → FileCause command before after sink sink'
   file_of command e runs = go command (put_of command runs (λ x. let other = sym e ∙ x in cc) (λ x. let other = sym e ∙ x in cc))
@@ -178,11 +173,12 @@ module _ (before after : World) (sink sink' : SinkSeen) (result : Status) where
       go None put = let other = sym e ∙ put.made.0 in cc
       go (Some (run m i s stop)) put =
           let inputs = run_inputs before.bank.size stop put.made.contents in
-          let cause = of_fetch inputs put.made.fault (sym put.made.status ∙ e) in
+          let cause = of_fetch inputs put.made.fault put.made.held (sym put.made.status ∙ e) in
           record {
             file = cause.0;
-            fails = shown_fetch (m ∷ i ∷ s ∷ []) put.made.fault cause.0 cause.1 put.made.shown_by_files;
-            line = on_told before.bank.told (λ (same : put.text ≡ (inputs_answer inputs put.made.fault).text). subst (λ (t : List ℕ). Takes sink.taken sink'.taken t) (same ∙ cause.2) put.taken) put.made.text;
+            contents = put.made.contents;
+            fails = shown_fetch (m ∷ i ∷ s ∷ []) put.made.contents (fetches_of put.made.contents) put.made.fault cause.0 cause.1 put.made.shown_by_files;
+            line = subst (λ (t : List ℕ). Takes sink.taken sink'.taken t) (put.made.text ∙ cause.2) put.taken;
           }
 
   pub module_of : (command : Option Command) → result ≡ status.ModuleFault → Runs command before after sink sink' result → ModuleCause before after sink sink'
@@ -192,12 +188,12 @@ module _ (before after : World) (sink sink' : SinkSeen) (result : Status) where
       go None put = let other = sym e ∙ put.made.0 in cc
       go (Some (run m i s stop)) put =
           let inputs = run_inputs before.bank.size stop put.made.contents in
-          let cause = of_refusal inputs put.made.fault (sym put.made.status ∙ e) in
+          let cause = of_refusal inputs put.made.fault put.made.held (sym put.made.status ∙ e) in
           record {
             fault = put.made.fault;
             is_refusal = cause.0;
             shown = put.made.shown_by_bank;
             text = put.text;
-            tells = on_told before.bank.told (λ (same : put.text ≡ (inputs_answer inputs put.made.fault).text). subst (λ (t : List ℕ). TellsRefusal put.made.fault t) (sym same) cause.1) put.made.text;
+            tells = subst (λ (t : List ℕ). TellsRefusal put.made.fault t) (sym put.made.text) cause.1;
             taken = put.taken;
           }

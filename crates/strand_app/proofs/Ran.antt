@@ -11,7 +11,6 @@ use Rattle.std.proofs.lemmas.List.FromFn.{length-map-range_with_len}
 use Rattle.std.proofs.lemmas.Option.{slice_get_within}
 use Rattle.strand_image.specs.Parts.{Parts}
 use Rattle.strand_inputs.specs.declared.step.Step.{Step}
-use Rattle.strand_exec.specs.Core.{Core}
 use Rattle.strand_report.specs.Report.{run_text}
 use Rattle.strand_report.specs.FaultLines.{read_fault, fill_fault}
 use Rattle.strand_report.specs.declared.fault_lines.StepFault.{StepFault}
@@ -25,7 +24,7 @@ use Rattle.strand_rules.proofs.Stored.{image_begins}
 use Rattle.strand_app.specs.declared.status.Status.{Status}
 use Rattle.strand_app.specs.declared.status.Status.TheVariants as status
 use Rattle.strand_app.specs.World.{absent, step, read, step_and_read, fill}
-use Rattle.strand_app.specs.RunAnswer.{state_after, words_of_state, report_of, good_answer, NextStores, StoresAt, StandsAfter, MayLeaveGood}
+use Rattle.strand_app.specs.RunAnswer.{state_after, words_of_state, good_answer, NextStores, StoresAt, ReadsAfter, StandsAfter, MayLeaveGood}
 use Rattle.strand_app.specs.Making.{MakesOnBank, Gives, status_of, steps_before}
 use Rattle.strand_app.specs.Stepping.{MakesSteps, StepsTo}
 
@@ -38,14 +37,6 @@ held_is : (told now : Option (List ℕ)) (image held : List ℕ) (count : ℕ) �
 held_is None now image held count long e is = tt
 held_is (Some ws) now image held count long e is =
     subst (λ (t : Option (List ℕ)). IfSome t (λ words. held ≡ take count words)) e is ∙ ap (λ (n : ℕ). take n (image ++ drop (length image) ws)) (sym long) ∙ take-append_seam image (drop (length image) ws)
-
-text_is : (told : Option (List ℕ)) (stop : ℕ) (cores : List Core) (held image : List ℕ) (fault : Option StepFault) → OnSome told (held ≡ image) → OnSome told (run_text stop cores held fault ≡ run_text stop cores image fault)
-text_is None stop cores held image fault e = tt
-text_is (Some ws) stop cores held image fault e = ap (λ (words : List ℕ). run_text stop cores words fault) e
-
-pub said : (told : Option (List ℕ)) (text : List ℕ) → OnSome told (text ≡ text)
-said None text = tt
-said (Some ws) text = refl
 
 -- calls that were accepted after a refusal
 refuses_before : (count : Refusals → Refusals) (a b c : BankSeen) (k : ℕ) → Keeps b c → c.refused ≡ b.refused → Refuses count a b k → Refuses count a c k
@@ -76,11 +67,18 @@ module _ (p : Parts) (steps : List Step) (m0 m1 : Machine) (b0 b1 b2 b3 : BankSe
         stands = again.stands p.persistent b0.told refl (fills.done ∙ ap (λ (words : List ℕ). front_written words b0.told) (sym (image_begins p.persistent (first_persists [] 0))));
       }
 
+  -- the words that were read, after these steps
+  reads : (fault : Option StepFault) (held : List ℕ) (made : List Step) → Left fault → m1.state ≡ state_after p made → length held ≡ length p.persistent
+      → IfSome b2.told (λ words. held ≡ take (length p.persistent) words) → ReadsAfter p made b0 held
+  reads fault held made so state long words =
+      (long, subst (λ (s : State). OnSome b0.told (held ≡ words_of_state p s)) state (held_is b0.told b2.told (words_of_state p m1.state) held (length p.persistent) (image_length p m1.state) so.stands words))
+
   -- the words were read
-  pub ran : (fault : Option StepFault) (held : List ℕ) → Left fault → Keeps b2 b3 → b3.told ≡ b2.told → b3.refused ≡ b2.refused → IfSome b2.told (λ words. held ≡ take (length p.persistent) words)
+  pub ran : (fault : Option StepFault) (held : List ℕ) → Left fault → Keeps b2 b3 → b3.told ≡ b2.told → b3.refused ≡ b2.refused → length held ≡ length p.persistent
+      → IfSome b2.told (λ words. held ≡ take (length p.persistent) words)
       → MakesOnBank p steps b0 b3 (status_of fault) (run_text (steps_before fault (length steps)) m1.state.now.cores held fault)
   unfolding good_answer
-  ran None held so kept same refused words =
+  ran None held so kept same refused count words =
       let state = so.to.0 in
       record {
         fault = absent;
@@ -88,11 +86,12 @@ module _ (p : Parts) (steps : List Step) (m0 m1 : Machine) (b0 b1 b2 b3 : BankSe
         shown = refused ∙ so.to.1 ∙ fills.accepted;
         kept = keeps_trans b0 b2 b3 so.kept kept;
         leaves = same ∙ subst (λ (s : State). b2.told ≡ front_written (words_of_state p s) b0.told) state so.stands;
+        held = held;
+        reads = reads None held steps so state count words;
         status = refl;
-        text = subst (λ (s : State). OnSome b0.told (run_text (length steps) m1.state.now.cores held None ≡ report_of p (length steps) s None)) state
-            (text_is b0.told (length steps) m1.state.now.cores held (words_of_state p m1.state) None (held_is b0.told b2.told (words_of_state p m1.state) held (length p.persistent) (image_length p m1.state) so.stands words));
+        text = ap (λ (s : State). run_text (length steps) s.now.cores held None) state;
       }
-  ran (Some f) held so kept same refused words =
+  ran (Some f) held so kept same refused count words =
       let state = so.to.0 in
       let within = step_within (length b1.faults) (program_of p) (start_of p) steps f.step f.«module» so.to.1 in
       let long : length (take (f.step - 1) steps) ≡ f.step - 1 = length-take-le (f.step - 1) steps within in
@@ -102,10 +101,10 @@ module _ (p : Parts) (steps : List Step) (m0 m1 : Machine) (b0 b1 b2 b3 : BankSe
         shown = refuses_before store_refused b0 b2 b3 f.«module» kept refused (refuses_after store_refused b0 b1 b2 f.«module» fills.kept fills.accepted so.to.2);
         kept = keeps_trans b0 b2 b3 so.kept kept;
         leaves = same ∙ subst (λ (s : State). b2.told ≡ front_written (words_of_state p s) b0.told) state so.stands;
+        held = held;
+        reads = reads (Some f) held (take (f.step - 1) steps) so state count words;
         status = refl;
-        text = subst (λ (n : ℕ). OnSome b0.told (run_text (f.step - 1) m1.state.now.cores held (Some f) ≡ report_of p n (state_after p (take (f.step - 1) steps)) (Some f))) (sym long)
-            (subst (λ (s : State). OnSome b0.told (run_text (f.step - 1) m1.state.now.cores held (Some f) ≡ report_of p (f.step - 1) s (Some f))) state
-            (text_is b0.told (f.step - 1) m1.state.now.cores held (words_of_state p m1.state) (Some f) (held_is b0.told b2.told (words_of_state p m1.state) held (length p.persistent) (image_length p m1.state) so.stands words)));
+        text = ap (λ (s : State). run_text (f.step - 1) s.now.cores held (Some f)) state ∙ ap (λ (n : ℕ). run_text n (state_after p (take (f.step - 1) steps)).now.cores held (Some f)) (sym long);
       }
 
   -- module n refused the read
@@ -119,8 +118,10 @@ module _ (p : Parts) (steps : List Step) (m0 m1 : Machine) (b0 b1 b2 b3 : BankSe
         shown = refuses_after read_refused b0 b2 b3 n so.kept (so.to.1 ∙ fills.accepted) refused;
         kept = keeps_trans b0 b2 b3 so.kept kept;
         leaves = same ∙ subst (λ (s : State). b2.told ≡ front_written (words_of_state p s) b0.told) so.to.0 so.stands;
+        held = [];
+        reads = tt;
         status = refl;
-        text = said b0.told (read_fault n);
+        text = refl;
       }
   read_refuses (Some f) n so kept same refused =
       record {
@@ -129,24 +130,30 @@ module _ (p : Parts) (steps : List Step) (m0 m1 : Machine) (b0 b1 b2 b3 : BankSe
         shown = record { between = b2; first = refuses_after store_refused b0 b1 b2 f.«module» fills.kept fills.accepted so.to.2; second = refused };
         kept = keeps_trans b0 b2 b3 so.kept kept;
         leaves = same ∙ subst (λ (s : State). b2.told ≡ front_written (words_of_state p s) b0.told) so.to.0 so.stands;
+        held = [];
+        reads = tt;
         status = refl;
-        text = said b0.told (read_fault n);
+        text = refl;
       }
 
   -- there was no memory behind the steps
-  pub may_leave : (fault : Option StepFault) → Left fault → b3.told ≡ b2.told → MayLeaveGood p steps b0 b3
-  may_leave None so same =
-      let all : take (length steps) steps ≡ steps = take_all (length steps) steps (omega arith) in
-      inr (inr (length steps, omega arith, subst (λ (xs : List Step). StandsAfter p xs b0 b3) (sym all) (same ∙ subst (λ (s : State). b2.told ≡ front_written (words_of_state p s) b0.told) so.to.0 so.stands)))
-  may_leave (Some f) so same =
-      inr (inr (f.step - 1, step_within (length b1.faults) (program_of p) (start_of p) steps f.step f.«module» so.to.1, same ∙ subst (λ (s : State). b2.told ≡ front_written (words_of_state p s) b0.told) so.to.0 so.stands))
+  pub may_leave : (fault : Option StepFault) → Left fault → Keeps b2 b3 → b3.told ≡ b2.told → Keeps b0 b3 × MayLeaveGood p steps b0 b3
+  may_leave None so kept same =
+      let all : take (length steps) steps ≡ steps = take_all (length steps) steps (omega arith) in (
+        keeps_trans b0 b2 b3 so.kept kept,
+        inr (inr (length steps, omega arith, subst (λ (xs : List Step). StandsAfter p xs b0 b3) (sym all) (same ∙ subst (λ (s : State). b2.told ≡ front_written (words_of_state p s) b0.told) so.to.0 so.stands))),
+      )
+  may_leave (Some f) so kept same = (
+    keeps_trans b0 b2 b3 so.kept kept,
+    inr (inr (f.step - 1, step_within (length b1.faults) (program_of p) (start_of p) steps f.step f.«module» so.to.1, same ∙ subst (λ (s : State). b2.told ≡ front_written (words_of_state p s) b0.told) so.to.0 so.stands)),
+  )
 
 -- module m refused the fill
 pub fill_refuses : (p : Parts) (steps : List Step) (b0 b1 : BankSeen) (m n : ℕ) → Keeps b0 b1 → n < length p.persistent → b1.told ≡ front_written (take n p.persistent) b0.told → Refuses fill_refused b0 b1 m
     → MakesOnBank p steps b0 b1 status.ModuleFault (fill_fault m)
 unfolding good_answer
 fill_refuses p steps b0 b1 m n kept few told refused =
-    record { fault = fill m; allowed = refused.exists; shown = refused; kept = kept; leaves = (n, few, told); status = refl; text = said b0.told (fill_fault m) }
+    record { fault = fill m; allowed = refused.exists; shown = refused; kept = kept; leaves = (n, few, told); held = []; reads = tt; status = refl; text = refl }
 
 -- the same of a call's result
 pub gives_made : (p : Parts) (steps : List Step) (b0 b3 : BankSeen) (end : Status) (text : List ℕ) (r : Result Made OutOfMemory) → Gives end text r → MakesOnBank p steps b0 b3 end text

@@ -1,5 +1,5 @@
 -- The cause of each fault that a call answers.
-use Rattle.std.specs.Prelude.{◌≡◌, ℕ, List, [], ◌∷◌, ◌++◌, Some, None, IsSome, OnSome}
+use Rattle.std.specs.Prelude.{◌≡◌, ℕ, List, [], ◌∷◌, ◌++◌, Some, None, IsSome}
 use Rattle.std.specs.declared.option.Option.{Option}
 use Rattle.strand_base.specs.SinkSeen.{SinkSeen, Takes}
 use Rattle.strand_report.specs.FaultLines.{file_fault, fill_fault, step_fault, read_fault}
@@ -17,8 +17,9 @@ names_of (Some (run machine image schedule stop)) = machine ∷ image ∷ schedu
 -- The fetch of a file failed, and the line names that file.
 pub record FileCause (command : Option Command) (before after : World) (sink sink' : SinkSeen) : Type 0 where
   pub file : ℕ
-  pub fails : FetchFails (names_of command) before.files after.files file
-  pub line : OnSome before.bank.told (Takes sink.taken sink'.taken (file_fault file))
+  pub contents : List (List ℕ)
+  pub fails : FetchFails (names_of command) contents before.files after.files file
+  pub line : Takes sink.taken sink'.taken (file_fault file)
 
 abbrev pub IsRefusal : Fault → Type 0
 IsRefusal absent = ⊥
@@ -43,7 +44,7 @@ pub record ModuleCause (before after : World) (sink sink' : SinkSeen) : Type 0 w
   pub is_refusal : IsRefusal fault
   pub shown : ShownByBank before.bank after.bank fault
   pub text : List ℕ
-  pub tells : OnSome before.bank.told (TellsRefusal fault text)
+  pub tells : TellsRefusal fault text
   pub taken : Takes sink.taken sink'.taken text
 
 -- The sink's count of faults rose, and a proper front of the command's text was taken.

@@ -1,23 +1,9 @@
--- The files that the first path takes: one machine file, images of one core and seven instructions, and schedules of two steps.
-use Rattle.std.specs.Prelude.{ℕ, ◌&&◌, ◌==◌, Bool, true, false, nat_lt, List, [], ◌∷◌, length, Some, None, Ok, Err, if◌then◌else◌}
-use Rattle.std.specs.List.{list_all}
+-- The files that the program takes today: one machine file, images of one core, and schedules of two steps.
+use Rattle.std.specs.Prelude.{ℕ, ◌==◌, Bool, false, nat_lt, List, [], ◌∷◌, length, Some, None, Ok, Err, if◌then◌else◌}
 use Rattle.std.specs.Str.{bytes_eq}
 use Rattle.std.specs.declared.option.Option.{Option}
 use Rattle.std.specs.declared.result.Result.{Result}
 use lib.Chars.{codes}
-use Rattle.strand_isa.specs.Decode.{instr_of}
-use Rattle.strand_isa.specs.declared.instr.Instr.{Instr}
-use Rattle.strand_isa.specs.declared.instr.Instr.TheVariants as instrs
-use Rattle.strand_isa.specs.declared.instr.UpperOp.{UpperOp}
-use Rattle.strand_isa.specs.declared.instr.UpperOp.TheVariants.{Lui}
-use Rattle.strand_isa.specs.declared.instr.LoadOp.{LoadOp}
-use Rattle.strand_isa.specs.declared.instr.LoadOp.TheVariants.{Ld}
-use Rattle.strand_isa.specs.declared.instr.StoreOp.{StoreOp}
-use Rattle.strand_isa.specs.declared.instr.StoreOp.TheVariants.{Sd}
-use Rattle.strand_isa.specs.declared.instr.ImmOp.{ImmOp}
-use Rattle.strand_isa.specs.declared.instr.ImmOp.TheVariants.{Addi}
-use Rattle.strand_isa.specs.declared.instr.RegOp.{RegOp}
-use Rattle.strand_isa.specs.declared.instr.RegOp.TheVariants.{Add}
 use Rattle.strand_image.specs.Parts.{Parts}
 use Rattle.strand_image.specs.Image.{image_of}
 use Rattle.strand_image.specs.declared.fault.ImageFault.{ImageFault}
@@ -31,44 +17,9 @@ first_machine = codes "mode strict\nqueue 64\nbuffers 1\nring 64\nflight 64\nset
 unfoldable pub is_machine : List ℕ → Bool
 is_machine bytes = if nat_lt 4096 (length bytes) then false else bytes_eq bytes first_machine
 
--- the seven instructions
-abbrev pub is_upper : UpperOp → Bool
-is_upper Lui = true
-is_upper _ = false
-
-abbrev pub is_load : LoadOp → Bool
-is_load Ld = true
-is_load _ = false
-
-abbrev pub is_store : StoreOp → Bool
-is_store Sd = true
-is_store _ = false
-
-abbrev pub is_imm : ImmOp → Bool
-is_imm Addi = true
-is_imm _ = false
-
-abbrev pub is_reg : RegOp → Bool
-is_reg Add = true
-is_reg _ = false
-
-abbrev pub is_first_instr : Option Instr → Bool
-is_first_instr None = false
-is_first_instr (Some (instrs.Upper op rd imm)) = is_upper op
-is_first_instr (Some (instrs.Load op rd rs1 imm)) = is_load op
-is_first_instr (Some (instrs.Store op rs1 rs2 imm)) = is_store op
-is_first_instr (Some (instrs.Imm op rd rs1 imm)) = is_imm op
-is_first_instr (Some (instrs.Reg op rd rs1 rs2)) = is_reg op
-is_first_instr (Some instrs.Ebreak) = true
-is_first_instr (Some instrs.JoinStrand) = true
-is_first_instr (Some _) = false
-
-abbrev pub is_first_word : ℕ → Bool
-is_first_word word = is_first_instr (instr_of word)
-
--- one core, no volatile words, and code words of the seven instructions
+-- one core
 abbrev pub is_first_image : Parts → Bool
-is_first_image p = (length p.entries == 1) && (length p.volatile == 0) && list_all is_first_word p.code
+is_first_image p = length p.entries == 1
 
 abbrev pub first_parts : Result Parts ImageFault → Option Parts
 first_parts (Ok p) = if is_first_image p then Some p else None

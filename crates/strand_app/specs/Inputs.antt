@@ -1,5 +1,5 @@
 -- What the files of a run say, with the stop and the size of the bank, or the first of them that is at fault.
-use Rattle.std.specs.Prelude.{◌≡◌, ◌⊎◌, ℕ, true, nat_lt, List, [], ◌∷◌, length, take, Some, None, Ok, Err, IsSome, if◌then◌else◌}
+use Rattle.std.specs.Prelude.{◌≡◌, ◌⊎◌, ℕ, true, nat_lt, List, [], ◌∷◌, length, take, Some, None, Ok, Err, is_some, IsSome, if◌then◌else◌}
 use Rattle.std.specs.declared.option.Option.{Option}
 use Rattle.std.specs.declared.result.Result.{Result}
 use Rattle.strand_image.specs.Parts.{Parts}
@@ -36,6 +36,11 @@ inputs_of size stop machine image schedule = if is_machine machine then imaged s
 abbrev pub run_inputs : ℕ → Stop → List (List ℕ) → Inputs
 run_inputs size stop (machine ∷ image ∷ schedule ∷ []) = inputs_of size stop machine image schedule
 run_inputs size stop _ = bad 1
+
+-- how many files are fetched where no fetch fails: those up to the first whose form is refused
+abbrev pub fetches_of : List (List ℕ) → ℕ
+fetches_of (machine ∷ image ∷ schedule ∷ []) = if is_machine machine then (if is_some (image_in image) then 3 else 2) else 1
+fetches_of _ = 0
 
 -- File k is fetched only where the files before it were accepted.
 abbrev pub IsFetched : List (List ℕ) → ℕ → Type 0

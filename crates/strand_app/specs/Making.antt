@@ -1,5 +1,5 @@
 -- What a part of a command made: a status and a text.
-use Rattle.std.specs.Prelude.{◌≡◌, ℕ, ◌-◌, List, length, IfOk, OnSome, Some, None}
+use Rattle.std.specs.Prelude.{◌≡◌, ℕ, ◌-◌, List, length, IfOk, Some, None}
 use Rattle.std.specs.declared.option.Option.{Option}
 use Rattle.std.specs.declared.result.Result.{Result}
 use Rattle.strand_base.specs.declared.out_of_memory.OutOfMemory.{OutOfMemory}
@@ -11,7 +11,7 @@ use Rattle.strand_app.specs.declared.status.Made.{Made}
 use Rattle.strand_app.specs.declared.status.Status.{Status}
 use Rattle.strand_app.specs.declared.status.Status.TheVariants as status
 use Rattle.strand_app.specs.World.{Fault, ShownByBank}
-use Rattle.strand_app.specs.RunAnswer.{good_answer, GoodAllows, GoodLeaves}
+use Rattle.strand_app.specs.RunAnswer.{good_answer, GoodAllows, GoodReads, GoodLeaves}
 
 -- this status and this text, unless memory ran out
 abbrev pub Gives : Status → List ℕ → Result Made OutOfMemory → Type 0
@@ -34,5 +34,7 @@ pub record MakesOnBank (p : Parts) (steps : List Step) (before after : BankSeen)
   pub shown : ShownByBank before after fault
   pub kept : Keeps before after
   pub leaves : GoodLeaves p steps fault before after
-  pub status : end ≡ (good_answer p steps fault).status
-  pub text : OnSome before.told (put ≡ (good_answer p steps fault).text)
+  pub held : List ℕ
+  pub reads : GoodReads p steps fault before held
+  pub status : end ≡ (good_answer p steps fault held).status
+  pub text : put ≡ (good_answer p steps fault held).text

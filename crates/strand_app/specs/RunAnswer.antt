@@ -1,5 +1,5 @@
 -- The command `run MACHINE IMAGE SCHEDULE STOP`: what it puts, which faults its files allow, and what it leaves in the bank.
-use Rattle.std.specs.Prelude.{◌≡◌, ◌⊎◌, ℕ, ◌-◌, ◌%◌, ◌<◌, ◌≤◌, List, length, take, slice_get, Some, None}
+use Rattle.std.specs.Prelude.{◌≡◌, ◌⊎◌, ℕ, ◌-◌, ◌%◌, ◌<◌, ◌≤◌, List, length, take, slice_get, Some, None, OnSome}
 use Rattle.std.specs.declared.option.Option.{Option}
 use Rattle.strand_image.specs.Parts.{Parts}
 use Rattle.strand_inputs.specs.declared.step.Step.{Step}
@@ -28,30 +28,44 @@ state_after p steps = run (program_of p) (start_of p) steps
 abbrev pub words_of_state : Parts → State → List ℕ
 words_of_state p s = persistent_image p.persistent s.now.trace (durable_set s)
 
--- the report of a state after some steps
-abbrev pub report_of : Parts → ℕ → State → Option StepFault → List ℕ
-report_of p made s fault = run_text made s.now.cores (words_of_state p s) fault
-
-abbrev pub report_after : Parts → List Step → Option StepFault → List ℕ
-report_after p steps fault = report_of p (length steps) (state_after p steps) fault
+-- the report after some steps, where the bank was read to hold these words
+abbrev pub report_after : Parts → List Step → List ℕ → Option StepFault → List ℕ
+report_after p steps held fault = run_text (length steps) (state_after p steps).now.cores held fault
 
 -- what is put for an image and the steps that are to be made
-unfoldable pub good_answer : Parts → List Step → Fault → Answer
-good_answer p steps absent = answer status.Ok (report_after p steps None)
-good_answer p steps (fetch k) = answer status.FileFault (file_fault k)
-good_answer p steps (fill m) = answer status.ModuleFault (fill_fault m)
-good_answer p steps (step k m) = answer status.ModuleFault (report_after p (take (k - 1) steps) (Some (record { «module» = m; step = k })))
-good_answer p steps (read m) = answer status.ModuleFault (read_fault m)
-good_answer p steps (step_and_read k m n) = answer status.ModuleFault (read_fault n)
+unfoldable pub good_answer : Parts → List Step → Fault → List ℕ → Answer
+good_answer p steps absent held = answer status.Ok (report_after p steps held None)
+good_answer p steps (fetch k) held = answer status.FileFault (file_fault k)
+good_answer p steps (fill m) held = answer status.ModuleFault (fill_fault m)
+good_answer p steps (step k m) held = answer status.ModuleFault (report_after p (take (k - 1) steps) held (Some (record { «module» = m; step = k })))
+good_answer p steps (read m) held = answer status.ModuleFault (read_fault m)
+good_answer p steps (step_and_read k m n) held = answer status.ModuleFault (read_fault n)
 
-unfoldable pub inputs_answer : Inputs → Fault → Answer
-inputs_answer (bad k) (fetch j) = answer status.FileFault (file_fault j)
-inputs_answer (bad k) _ = answer status.Input (input_fault k)
-inputs_answer (good p steps) fault = good_answer p steps fault
+unfoldable pub inputs_answer : Inputs → Fault → List ℕ → Answer
+inputs_answer (bad k) (fetch j) held = answer status.FileFault (file_fault j)
+inputs_answer (bad k) _ held = answer status.Input (input_fault k)
+inputs_answer (good p steps) fault held = good_answer p steps fault held
 
 -- for a bank of so many words
-abbrev pub run_answer : ℕ → Stop → List (List ℕ) → Fault → Answer
-run_answer size stop contents fault = inputs_answer (run_inputs size stop contents) fault
+abbrev pub run_answer : ℕ → Stop → List (List ℕ) → Fault → List ℕ → Answer
+run_answer size stop contents fault held = inputs_answer (run_inputs size stop contents) fault held
+
+-- The words that were read are as many as the image's persistent words; where the bank tells its words they are those of the durable set.
+abbrev pub ReadsAfter : Parts → List Step → BankSeen → List ℕ → Type 0
+ReadsAfter p steps before held = (length held ≡ length p.persistent) × OnSome before.told (held ≡ words_of_state p (state_after p steps))
+
+-- what a report was made from
+abbrev pub GoodReads : Parts → List Step → Fault → BankSeen → List ℕ → Type 0
+GoodReads p steps absent before held = ReadsAfter p steps before held
+GoodReads p steps (step k m) before held = ReadsAfter p (take (k - 1) steps) before held
+GoodReads p steps _ before held = Unit {0}
+
+abbrev pub InputsRead : Inputs → Fault → BankSeen → List ℕ → Type 0
+InputsRead (bad k) fault before held = Unit {0}
+InputsRead (good p steps) fault before held = GoodReads p steps fault before held
+
+abbrev pub RunReads : ℕ → Stop → List (List ℕ) → Fault → BankSeen → List ℕ → Type 0
+RunReads size stop contents fault before held = InputsRead (run_inputs size stop contents) fault before held
 
 -- the module of a request, in a bank of so many modules
 abbrev pub IsModuleOf : ℕ → Option Request → ℕ → Type 0

@@ -3,24 +3,25 @@ use Rattle.std.specs.Prelude.{◌≡◌, ◌⊎◌, ℕ, List, [], ◌∷◌, le
 use Rattle.std.specs.declared.option.Option.{Option}
 use Rattle.strand_base.specs.SinkSeen.{SinkSeen}
 use Rattle.strand_report.specs.FaultLines.{words_fault}
+use Rattle.strand_rules.specs.Bank.{Keeps}
 use Rattle.strand_app.specs.declared.status.Status.{Status}
 use Rattle.strand_app.specs.declared.status.Status.TheVariants as status
 use Rattle.strand_app.specs.Command.{Command, run}
 use Rattle.strand_app.specs.Ends.{Ends}
-use Rattle.strand_app.specs.Inputs.{run_inputs}
-use Rattle.strand_app.specs.RunAnswer.{run_answer, RunAllows, RunLeaves, MayLeave}
+use Rattle.strand_app.specs.Inputs.{run_inputs, fetches_of}
+use Rattle.strand_app.specs.RunAnswer.{run_answer, RunAllows, RunReads, RunLeaves, MayLeave}
 use Rattle.strand_app.specs.World.{World, Makes, AreFiles}
 
 -- how the call ends and what it puts if the sink doesn't fail
 abbrev pub CommandMakes : Option Command → World → World → Status → List ℕ → Type 0
 CommandMakes None before after end text = (end ≡ status.Words) × (text ≡ words_fault) × (after ≡ before)
 CommandMakes (Some (run machine image schedule stop)) before after end text =
-    Makes (machine ∷ image ∷ schedule ∷ []) (run_answer before.bank.size stop) (RunAllows before.bank.size (length before.bank.faults) stop) (RunLeaves before.bank.size stop) before after end text
+    Makes (machine ∷ image ∷ schedule ∷ []) (run_answer before.bank.size stop) fetches_of (RunAllows before.bank.size (length before.bank.faults) stop) (RunReads before.bank.size stop) (RunLeaves before.bank.size stop) before after end text
 
 -- what the bank may hold where no memory was left
 abbrev pub CommandLeaves : Command → World → World → Type 0
 CommandLeaves (run machine image schedule stop) before after =
-    (contents : List (List ℕ)) × AreFiles before.files.told (machine ∷ image ∷ schedule ∷ []) contents × MayLeave (run_inputs before.bank.size stop contents) before.bank after.bank
+    (contents : List (List ℕ)) × AreFiles before.files.told (machine ∷ image ∷ schedule ∷ []) contents × Keeps before.bank after.bank × MayLeave (run_inputs before.bank.size stop contents) before.bank after.bank
 
 -- No memory was left, and nothing was put.
 abbrev pub GivesUp : Option Command → World → World → SinkSeen → SinkSeen → Status → Type 0

@@ -1,15 +1,13 @@
 ghost use Rattle.std.specs.Prelude.{◌≡◌, ◌≤◌, length, IfOk, IfSome};
-ghost use Rattle.std.specs.List.{list_all};
-ghost use Rattle.strand_app.specs.FirstForms.{is_machine, is_first_instr, is_first_word, is_first_image, image_in, schedule_in, step_of, steps_of, few_steps};
+ghost use Rattle.strand_app.specs.FirstForms.{is_machine, is_first_image, image_in, schedule_in, step_of, steps_of, few_steps};
 ghost use Rattle.strand_inputs.specs.Fits.{StepFits};
 
 use std::alloc::Global;
 use strand_base::OutOfMemory;
 use strand_image::{Image, ImageFault, read_image};
 use strand_inputs::{Schedule, Step};
-use strand_isa::{ImmOp, Instr, LoadOp, RegOp, StoreOp, UpperOp, decode};
 
-/// Whether a machine file is the one that the first path takes.
+/// Whether a machine file is the one that the program takes.
 #[tactic(auto, unfolding(crate::specs::FirstForms::is_machine))]
 pub fn is_machine(bytes: &[u8]) -> bool
     requires { length bytes.now ≤ 4096 }
@@ -18,37 +16,10 @@ pub fn is_machine(bytes: &[u8]) -> bool
     bytes == b"mode strict\nqueue 64\nbuffers 1\nring 64\nflight 64\nsets 4\nways 2\n".as_slice()
 }
 
-fn is_first_instr(i: Option<Instr>) -> bool
-    ensures { result ≡ is_first_instr i }
-{
-    match i {
-        Some(Instr::Upper { op, .. }) => matches!(op, UpperOp::Lui),
-        Some(Instr::Load { op, .. }) => matches!(op, LoadOp::Ld),
-        Some(Instr::Store { op, .. }) => matches!(op, StoreOp::Sd),
-        Some(Instr::Imm { op, .. }) => matches!(op, ImmOp::Addi),
-        Some(Instr::Reg { op, .. }) => matches!(op, RegOp::Add),
-        Some(Instr::Ebreak) => true,
-        Some(Instr::JoinStrand) => true,
-        _ => false,
-    }
-}
-
-fn is_first_word(word: u32) -> bool
-    ensures { result ≡ is_first_word word }
-{
-    is_first_instr(decode(word))
-}
-
-fn is_first_code(code: &[u32]) -> bool
-    ensures { result ≡ list_all is_first_word code.now }
-{
-    code.iter().all(|word| is_first_word(*word))
-}
-
 fn is_first_image(image: &Image) -> bool
     ensures { result ≡ is_first_image image.now }
 {
-    image.entries().len() == 1 && image.volatile().is_empty() && is_first_code(image.code())
+    image.entries().len() == 1
 }
 
 /// The image of a file, or `None` exactly where the file is not of the form.

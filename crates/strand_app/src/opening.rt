@@ -113,7 +113,7 @@ pub fn open_files<F: Files>(
     stop: Stop,
     files: &mut F,
 ) -> Result<Opened, OpenFault>
-    ensures opens { IfOk result (Opens (machine.now ∷ image.now ∷ schedule.now ∷ []) size stop (F.seen files.old)) }
+    ensures opens { IfOk result (Opens (machine.now ∷ image.now ∷ schedule.now ∷ []) size stop (F.seen files.old) (F.seen files.new)) }
     ensures ready { IfOk result (IsReady size) }
     ensures fails { IfErr result (FailsToOpen (machine.now ∷ image.now ∷ schedule.now ∷ []) (F.seen files.old) (F.seen files.new)) }
     ensures later { (F.seen files.old).faults ≤ (F.seen files.new).faults }

@@ -1,6 +1,7 @@
 ghost use Rattle.std.specs.Prelude.{◌≡◌, [], ◌∷◌, length, IfOk, OnErr};
 ghost use Rattle.strand_app.specs.Command.{run};
-ghost use Rattle.strand_app.specs.RunAnswer.{run_answer, RunAllows, RunLeaves};
+ghost use Rattle.strand_app.specs.Inputs.{fetches_of};
+ghost use Rattle.strand_app.specs.RunAnswer.{run_answer, RunAllows, RunReads, RunLeaves};
 ghost use Rattle.strand_app.specs.Runs.{CommandLeaves};
 ghost use Rattle.strand_app.specs.World.{Makes, world};
 
@@ -23,8 +24,8 @@ pub fn run<F: Files>(
     files: &mut F,
     bank: &mut ModuleBank,
 ) -> Result<Made, OutOfMemory>
-    ensures made { IfOk result (λ made. Makes (machine.now ∷ image.now ∷ schedule.now ∷ []) (run_answer bank.old.size stop)
-        (RunAllows bank.old.size (length bank.old.faults) stop) (RunLeaves bank.old.size stop)
+    ensures made { IfOk result (λ made. Makes (machine.now ∷ image.now ∷ schedule.now ∷ []) (run_answer bank.old.size stop) fetches_of
+        (RunAllows bank.old.size (length bank.old.faults) stop) (RunReads bank.old.size stop) (RunLeaves bank.old.size stop)
         (world (F.seen files.old) bank.old) (world (F.seen files.new) bank.new) made.status made.text.items) }
     ensures memory { OnErr result (CommandLeaves (run machine.now image.now schedule.now stop) (world (F.seen files.old) bank.old) (world (F.seen files.new) bank.new)) }
 {

@@ -1,6 +1,7 @@
 ghost use Rattle.std.specs.Prelude.{◌≡◌, ◌≤◌, length, IfOk, OnErr};
 ghost use Rattle.strand_app.specs.Making.{MakesOnBank, steps_before};
 ghost use Rattle.strand_app.specs.RunAnswer.{MayLeaveGood};
+ghost use Rattle.strand_rules.specs.Bank.{Keeps};
 
 use crate::Made;
 use crate::answers::{fill_fault, read_fault, report};
@@ -24,7 +25,7 @@ pub fn run_on_bank(
     requires room { length image.now.persistent ≤ bank.old.size }
     requires few { length steps.now ≤ 200000 }
     ensures made { IfOk result (λ made. MakesOnBank image.now steps.now bank.old bank.new made.status made.text.items) }
-    ensures memory { OnErr result (MayLeaveGood image.now steps.now bank.old bank.new) }
+    ensures memory { OnErr result (Keeps bank.old bank.new × MayLeaveGood image.now steps.now bank.old bank.new) }
 {
     let mut machine = PlainMachine::new(alloc, image, steps.len() as u64)?;
     let count = image.persistent().len();

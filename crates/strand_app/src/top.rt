@@ -3,7 +3,7 @@ ghost use Rattle.std.specs.Prelude.{None};
 ghost use Rattle.strand_report.specs.FaultLines.{words_fault};
 ghost use Rattle.strand_app.specs.Causes.{FileCause, ModuleCause, SinkCause, MemoryCause};
 ghost use Rattle.strand_app.specs.Command.{command_of};
-ghost use Rattle.strand_app.specs.Crash.{CommandTells, CommandLeavesAllowed};
+ghost use Rattle.strand_app.specs.Crash.{CommandTells, CommandHolds};
 ghost use Rattle.strand_app.specs.Ends.{Ends};
 ghost use Rattle.strand_app.specs.Runs.{Runs};
 ghost use Rattle.strand_app.specs.World.{world};
@@ -52,7 +52,7 @@ pub fn strand_main<F: Files, K: Sink>(
     ensures visible { result ≡ Status.Ok → CommandTells (command_of (map string_bytes words.now)) (world (F.seen files.old) bank.old) (world (F.seen files.new) bank.new) (K.seen out.old) (K.seen out.new) }
 
     // However the call ends, what its steps left in the bank is an image that persist order allows.
-    ensures crash { CommandLeavesAllowed (command_of (map string_bytes words.now)) (world (F.seen files.old) bank.old) (world (F.seen files.new) bank.new) }
+    ensures crash { CommandHolds (command_of (map string_bytes words.now)) (world (F.seen files.old) bank.old) (world (F.seen files.new) bank.new) result }
 
     // Only words that are no command are answered so, and they always are.
     ensures words { result ≡ Status.Words → command_of (map string_bytes words.now) ≡ None }
