@@ -79,14 +79,14 @@ of_absent (good p steps) (read m) e = cc
 of_absent (good p steps) (step_and_read j m n) e = cc
 
 whole_text : (p : Parts) (steps : List Step) → (good_answer p steps absent).text
-    ≡ run_text (length steps) (visible_after p steps).cores (image_after p steps (durable_set (state_after p steps))) None
+    ≡ run_text (length steps) (visible_after p steps).cores (visible_after p steps).trace (image_after p steps (durable_set (state_after p steps))) None
 unfolding good_answer
 whole_text p steps =
     let s = state_after p steps in
-    subst (λ (v : Visible). run_text (length steps) s.now.cores (words_of_state p s) None ≡ run_text (length steps) v.cores (persistent_image p.persistent v.trace (durable_set s)) None) (good_after p steps).seen refl
+    subst (λ (v : Visible). run_text (length steps) s.now.cores s.now.trace (words_of_state p s) None ≡ run_text (length steps) v.cores v.trace (persistent_image p.persistent v.trace (durable_set s)) None) (good_after p steps).seen refl
 
 answer_text : (i : Inputs) (f : Fault) (p : Parts) (steps : List Step) → i ≡ good p steps → f ≡ absent → (inputs_answer i f).text
-    ≡ run_text (length steps) (visible_after p steps).cores (image_after p steps (durable_set (state_after p steps))) None
+    ≡ run_text (length steps) (visible_after p steps).cores (visible_after p steps).trace (image_after p steps (durable_set (state_after p steps))) None
 unfolding inputs_answer
 answer_text i f p steps e none = ap (λ (j : Inputs). (inputs_answer j f).text) e ∙ ap (λ (g : Fault). (inputs_answer (good p steps) g).text) none ∙ whole_text p steps
 

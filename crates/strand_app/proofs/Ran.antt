@@ -11,6 +11,7 @@ use Rattle.std.proofs.lemmas.List.FromFn.{length-map-range_with_len}
 use Rattle.std.proofs.lemmas.Option.{slice_get_within}
 use Rattle.strand_image.specs.Parts.{Parts}
 use Rattle.strand_inputs.specs.declared.step.Step.{Step}
+use Rattle.strand_events.specs.declared.event.Event.{Event}
 use Rattle.strand_exec.specs.Core.{Core}
 use Rattle.strand_report.specs.Report.{run_text}
 use Rattle.strand_report.specs.FaultLines.{read_fault, fill_fault}
@@ -39,9 +40,9 @@ held_is None now image held count long e is = tt
 held_is (Some ws) now image held count long e is =
     subst (λ (t : Option (List ℕ)). IfSome t (λ words. held ≡ take count words)) e is ∙ ap (λ (n : ℕ). take n (image ++ drop (length image) ws)) (sym long) ∙ take-append_seam image (drop (length image) ws)
 
-text_is : (told : Option (List ℕ)) (stop : ℕ) (cores : List Core) (held image : List ℕ) (fault : Option StepFault) → OnSome told (held ≡ image) → OnSome told (run_text stop cores held fault ≡ run_text stop cores image fault)
-text_is None stop cores held image fault e = tt
-text_is (Some ws) stop cores held image fault e = ap (λ (words : List ℕ). run_text stop cores words fault) e
+text_is : (told : Option (List ℕ)) (stop : ℕ) (cores : List Core) (trace : List Event) (held image : List ℕ) (fault : Option StepFault) → OnSome told (held ≡ image) → OnSome told (run_text stop cores trace held fault ≡ run_text stop cores trace image fault)
+text_is None stop cores trace held image fault e = tt
+text_is (Some ws) stop cores trace held image fault e = ap (λ (words : List ℕ). run_text stop cores trace words fault) e
 
 pub said : (told : Option (List ℕ)) (text : List ℕ) → OnSome told (text ≡ text)
 said None text = tt
@@ -78,7 +79,7 @@ module _ (p : Parts) (steps : List Step) (m0 m1 : Machine) (b0 b1 b2 b3 : BankSe
 
   -- the words were read
   pub ran : (fault : Option StepFault) (held : List ℕ) → Left fault → Keeps b2 b3 → b3.told ≡ b2.told → b3.refused ≡ b2.refused → IfSome b2.told (λ words. held ≡ take (length p.persistent) words)
-      → MakesOnBank p steps b0 b3 (status_of fault) (run_text (steps_before fault (length steps)) m1.state.now.cores held fault)
+      → MakesOnBank p steps b0 b3 (status_of fault) (run_text (steps_before fault (length steps)) m1.state.now.cores m1.state.now.trace held fault)
   unfolding good_answer
   ran None held so kept same refused words =
       let state = so.to.0 in
@@ -89,8 +90,8 @@ module _ (p : Parts) (steps : List Step) (m0 m1 : Machine) (b0 b1 b2 b3 : BankSe
         kept = keeps_trans b0 b2 b3 so.kept kept;
         leaves = same ∙ subst (λ (s : State). b2.told ≡ front_written (words_of_state p s) b0.told) state so.stands;
         status = refl;
-        text = subst (λ (s : State). OnSome b0.told (run_text (length steps) m1.state.now.cores held None ≡ report_of p (length steps) s None)) state
-            (text_is b0.told (length steps) m1.state.now.cores held (words_of_state p m1.state) None (held_is b0.told b2.told (words_of_state p m1.state) held (length p.persistent) (image_length p m1.state) so.stands words));
+        text = subst (λ (s : State). OnSome b0.told (run_text (length steps) m1.state.now.cores m1.state.now.trace held None ≡ report_of p (length steps) s None)) state
+            (text_is b0.told (length steps) m1.state.now.cores m1.state.now.trace held (words_of_state p m1.state) None (held_is b0.told b2.told (words_of_state p m1.state) held (length p.persistent) (image_length p m1.state) so.stands words));
       }
   ran (Some f) held so kept same refused words =
       let state = so.to.0 in
@@ -103,9 +104,9 @@ module _ (p : Parts) (steps : List Step) (m0 m1 : Machine) (b0 b1 b2 b3 : BankSe
         kept = keeps_trans b0 b2 b3 so.kept kept;
         leaves = same ∙ subst (λ (s : State). b2.told ≡ front_written (words_of_state p s) b0.told) state so.stands;
         status = refl;
-        text = subst (λ (n : ℕ). OnSome b0.told (run_text (f.step - 1) m1.state.now.cores held (Some f) ≡ report_of p n (state_after p (take (f.step - 1) steps)) (Some f))) (sym long)
-            (subst (λ (s : State). OnSome b0.told (run_text (f.step - 1) m1.state.now.cores held (Some f) ≡ report_of p (f.step - 1) s (Some f))) state
-            (text_is b0.told (f.step - 1) m1.state.now.cores held (words_of_state p m1.state) (Some f) (held_is b0.told b2.told (words_of_state p m1.state) held (length p.persistent) (image_length p m1.state) so.stands words)));
+        text = subst (λ (n : ℕ). OnSome b0.told (run_text (f.step - 1) m1.state.now.cores m1.state.now.trace held (Some f) ≡ report_of p n (state_after p (take (f.step - 1) steps)) (Some f))) (sym long)
+            (subst (λ (s : State). OnSome b0.told (run_text (f.step - 1) m1.state.now.cores m1.state.now.trace held (Some f) ≡ report_of p (f.step - 1) s (Some f))) state
+            (text_is b0.told (f.step - 1) m1.state.now.cores m1.state.now.trace held (words_of_state p m1.state) (Some f) (held_is b0.told b2.told (words_of_state p m1.state) held (length p.persistent) (image_length p m1.state) so.stands words)));
       }
 
   -- module n refused the read

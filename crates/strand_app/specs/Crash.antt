@@ -41,7 +41,7 @@ CommandLeavesAllowed None before after = after.bank ≡ before.bank
 CommandLeavesAllowed (Some (run machine image schedule stop)) before after =
     (contents : List (List ℕ)) × AreFiles before.files.told (machine ∷ image ∷ schedule ∷ []) contents × LeavesAllowed (run_inputs before.bank.size stop contents) before.bank after.bank
 
--- A run was told whole: the report's cores are those of the visible run over all steps, its persistent words are those that the bank holds, and persist order allows them.
+-- A run was told whole: the report's cores and what they put out are those of the visible run over all steps, its persistent words are those that the bank holds, and persist order allows them.
 pub record TellsRun (names : List (List ℕ)) (inputs : List (List ℕ) → Inputs) (before after : World) (sink sink' : SinkSeen) : Type 0 where
   pub contents : List (List ℕ)
   pub files : AreFiles before.files.told names contents
@@ -49,7 +49,7 @@ pub record TellsRun (names : List (List ℕ)) (inputs : List (List ℕ) → Inpu
   pub steps : List Step
   pub says : inputs contents ≡ good image steps
   pub text : OnSome before.bank.told (Takes sink.taken sink'.taken
-      (run_text (length steps) (visible_after image steps).cores (image_after image steps (durable_set (state_after image steps))) None))
+      (run_text (length steps) (visible_after image steps).cores (visible_after image steps).trace (image_after image steps (durable_set (state_after image steps))) None))
   pub bank : HoldsAllowed image steps before.bank after.bank
 
 abbrev pub CommandTells : Option Command → World → World → SinkSeen → SinkSeen → Type 0

@@ -30,7 +30,7 @@ words_of_state p s = persistent_image p.persistent s.now.trace (durable_set s)
 
 -- the report of a state after some steps
 abbrev pub report_of : Parts → ℕ → State → Option StepFault → List ℕ
-report_of p made s fault = run_text made s.now.cores (words_of_state p s) fault
+report_of p made s fault = run_text made s.now.cores s.now.trace (words_of_state p s) fault
 
 abbrev pub report_after : Parts → List Step → Option StepFault → List ℕ
 report_after p steps fault = report_of p (length steps) (state_after p steps) fault
