@@ -5,6 +5,8 @@ use Rattle.std.specs.declared.option.Option.{Option}
 use Rattle.std.proofs.lemmas.List.{append_assoc}
 use Rattle.strand_base.specs.SinkSeen.{SinkSeen, Takes}
 use Rattle.strand_exec.specs.Core.{Core}
+use Rattle.strand_events.specs.declared.event.Event.{Event}
+use Rattle.strand_report.specs.Outs.{out_lines}
 use Rattle.strand_report.specs.Report.{run_text, stop_line, core_lines}
 use Rattle.strand_report.specs.Numbered.{numbered}
 use Rattle.strand_report.specs.Words.{held_lines}
@@ -82,13 +84,19 @@ of_fetch (good p steps) (step j m) held e = cc
 of_fetch (good p steps) (read m) held e = cc
 of_fetch (good p steps) (step_and_read j m n) held e = cc
 
--- the last of four parts of a text
-last_part : (a b c d : List ℕ) → (front : List ℕ) × (a ++ (b ++ (c ++ d)) ≡ front ++ d)
-last_part a b c d = (a ++ (b ++ c), ap (λ (l : List ℕ). a ++ l) (sym (append_assoc b c d)) ∙ sym (append_assoc a (b ++ c) d))
+-- a text behind which another stands
+abbrev EndsWith : List ℕ → List ℕ → Type 0
+EndsWith text end = (front : List ℕ) × (text ≡ front ++ end)
+
+behind : (a text end : List ℕ) → EndsWith text end → EndsWith (a ++ text) end
+behind a text end h = (a ++ h.0, ap (λ (l : List ℕ). a ++ l) h.1 ∙ sym (append_assoc a h.0 end))
 
 -- a report ends with the line of the refused step
-refused_step : (stop : ℕ) (cores : List Core) (held : List ℕ) (fault : StepFault) → (front : List ℕ) × (run_text stop cores held (Some fault) ≡ front ++ step_fault fault.«module» fault.step)
-refused_step stop cores held fault = last_part (stop_line stop) (numbered core_lines cores) (held_lines held) (step_fault fault.«module» fault.step)
+refused_step : (stop : ℕ) (cores : List Core) (trace : List Event) (held : List ℕ) (fault : StepFault)
+    → EndsWith (run_text stop cores trace held (Some fault)) (step_fault fault.«module» fault.step)
+refused_step stop cores trace held fault =
+    let end = step_fault fault.«module» fault.step in
+    behind (stop_line stop) _ end (behind (numbered core_lines cores) _ end (behind (out_lines trace) _ end (behind (held_lines held) _ end ([], refl))))
 
 -- a module fault is the answer to a refusal
 of_refusal : (i : Inputs) (f : Fault) (held : List ℕ) → (inputs_answer i f held).status ≡ status.ModuleFault → IsRefusal f × TellsRefusal f (inputs_answer i f held).text
@@ -103,7 +111,7 @@ of_refusal (good p steps) absent held e = cc
 of_refusal (good p steps) (fetch j) held e = cc
 of_refusal (good p steps) (fill m) held e = (tt, refl)
 of_refusal (good p steps) (step j m) held e =
-    let made = take (j - 1) steps in (tt, refused_step (length made) (state_after p made).now.cores held (record { «module» = m; step = j }))
+    let made = take (j - 1) steps in (tt, refused_step (length made) (state_after p made).now.cores (state_after p made).now.trace held (record { «module» = m; step = j }))
 of_refusal (good p steps) (read m) held e = (tt, refl)
 of_refusal (good p steps) (step_and_read j m n) held e = (tt, refl)
 

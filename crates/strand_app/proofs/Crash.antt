@@ -70,10 +70,10 @@ of_absent (good p steps) (read m) held e = cc
 of_absent (good p steps) (step_and_read j m n) held e = cc
 
 answer_text : (i : Inputs) (f : Fault) (held : List ℕ) (p : Parts) (steps : List Step) → i ≡ good p steps → f ≡ absent
-    → (inputs_answer i f held).text ≡ run_text (length steps) (visible_after p steps).cores held None
+    → (inputs_answer i f held).text ≡ run_text (length steps) (visible_after p steps).cores (visible_after p steps).trace held None
 unfolding inputs_answer good_answer
 answer_text i f held p steps e none =
-    ap (λ (j : Inputs). (inputs_answer j f held).text) e ∙ ap (λ (g : Fault). (good_answer p steps g held).text) none ∙ ap (λ (v : Visible). run_text (length steps) v.cores held None) (good_after p steps).seen
+    ap (λ (j : Inputs). (inputs_answer j f held).text) e ∙ ap (λ (g : Fault). (good_answer p steps g held).text) none ∙ ap (λ (v : Visible). run_text (length steps) v.cores v.trace held None) (good_after p steps).seen
 
 words_read : (i : Inputs) (f : Fault) (before : BankSeen) (held : List ℕ) (p : Parts) (steps : List Step) → i ≡ good p steps → f ≡ absent → InputsRead i f before held
     → OnSome before.told (held ≡ image_after p steps (durable_set (state_after p steps)))

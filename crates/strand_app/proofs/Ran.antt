@@ -76,7 +76,7 @@ module _ (p : Parts) (steps : List Step) (m0 m1 : Machine) (b0 b1 b2 b3 : BankSe
   -- the words were read
   pub ran : (fault : Option StepFault) (held : List ℕ) → Left fault → Keeps b2 b3 → b3.told ≡ b2.told → b3.refused ≡ b2.refused → length held ≡ length p.persistent
       → IfSome b2.told (λ words. held ≡ take (length p.persistent) words)
-      → MakesOnBank p steps b0 b3 (status_of fault) (run_text (steps_before fault (length steps)) m1.state.now.cores held fault)
+      → MakesOnBank p steps b0 b3 (status_of fault) (run_text (steps_before fault (length steps)) m1.state.now.cores m1.state.now.trace held fault)
   unfolding good_answer
   ran None held so kept same refused count words =
       let state = so.to.0 in
@@ -89,7 +89,7 @@ module _ (p : Parts) (steps : List Step) (m0 m1 : Machine) (b0 b1 b2 b3 : BankSe
         held = held;
         reads = reads None held steps so state count words;
         status = refl;
-        text = ap (λ (s : State). run_text (length steps) s.now.cores held None) state;
+        text = ap (λ (s : State). run_text (length steps) s.now.cores s.now.trace held None) state;
       }
   ran (Some f) held so kept same refused count words =
       let state = so.to.0 in
@@ -104,7 +104,7 @@ module _ (p : Parts) (steps : List Step) (m0 m1 : Machine) (b0 b1 b2 b3 : BankSe
         held = held;
         reads = reads (Some f) held (take (f.step - 1) steps) so state count words;
         status = refl;
-        text = ap (λ (s : State). run_text (f.step - 1) s.now.cores held (Some f)) state ∙ ap (λ (n : ℕ). run_text n (state_after p (take (f.step - 1) steps)).now.cores held (Some f)) (sym long);
+        text = ap (λ (s : State). run_text (f.step - 1) s.now.cores s.now.trace held (Some f)) state ∙ ap (λ (n : ℕ). run_text n (state_after p (take (f.step - 1) steps)).now.cores (state_after p (take (f.step - 1) steps)).now.trace held (Some f)) (sym long);
       }
 
   -- module n refused the read

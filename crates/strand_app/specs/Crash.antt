@@ -81,7 +81,7 @@ pub record TellsRun (names : List (List ℕ)) (inputs : List (List ℕ) → Inpu
   pub steps : List Step
   pub says : inputs contents ≡ good image steps
   pub held : List ℕ
-  pub text : Takes sink.taken sink'.taken (run_text (length steps) (visible_after image steps).cores held None)
+  pub text : Takes sink.taken sink'.taken (run_text (length steps) (visible_after image steps).cores (visible_after image steps).trace held None)
   pub words : OnSome before.bank.told (held ≡ image_after image steps (durable_set (state_after image steps)))
   pub bank : HoldsAllowed image steps before.bank after.bank
 

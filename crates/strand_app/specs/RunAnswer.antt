@@ -30,7 +30,7 @@ words_of_state p s = persistent_image p.persistent s.now.trace (durable_set s)
 
 -- the report after some steps, where the bank was read to hold these words
 abbrev pub report_after : Parts → List Step → List ℕ → Option StepFault → List ℕ
-report_after p steps held fault = run_text (length steps) (state_after p steps).now.cores held fault
+report_after p steps held fault = run_text (length steps) (state_after p steps).now.cores (state_after p steps).now.trace held fault
 
 -- what is put for an image and the steps that are to be made
 unfoldable pub good_answer : Parts → List Step → Fault → List ℕ → Answer

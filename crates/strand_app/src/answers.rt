@@ -68,12 +68,13 @@ pub fn report(
     held: &[u64],
     fault: Option<StepFault>,
 ) -> Result<Made, OutOfMemory>
-    ensures { Gives (status_of fault) (run_text stop machine.now.state.now.cores held.now fault) result }
+    ensures { Gives (status_of fault) (run_text stop machine.now.state.now.cores machine.now.state.now.trace held.now fault) result }
 {
     let mut text = Vec::new(alloc);
     let view = RunView {
         stop,
         cores: machine.cores(),
+        trace: machine.trace(),
         held,
         fault,
     };

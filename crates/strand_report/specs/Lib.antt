@@ -1,4 +1,5 @@
 pub mod FaultLines
 pub mod Numbered
+pub mod Outs
 pub mod Report
 pub mod Words

@@ -11,9 +11,11 @@ use Rattle.strand_exec.specs.declared.life.Life.TheVariants.{Running, Halted, Tr
 use Rattle.strand_exec.specs.declared.life.Trap.{Trap}
 use Rattle.strand_exec.specs.declared.life.Trap.TheVariants.{Fetch, Target, Illegal, Misaligned, Access, Call}
 use Rattle.strand_report.specs.declared.fault_lines.StepFault.{StepFault}
+use Rattle.strand_events.specs.declared.event.Event.{Event}
 use Rattle.strand_exec.specs.Core.{Core}
 use Rattle.strand_report.specs.FaultLines.{step_fault}
 use Rattle.strand_report.specs.Numbered.{numbered}
+use Rattle.strand_report.specs.Outs.{out_lines}
 use Rattle.strand_report.specs.Words.{held_lines}
 
 -- "stop S": S steps were made
@@ -55,9 +57,10 @@ fault_lines None = []
 fault_lines (Some fault) = step_fault fault.«module» fault.step
 
 -- the lines of a run's report, in their order
-abbrev pub run_text : ℕ → List Core → List ℕ → Option StepFault → List ℕ
-run_text stop cores held fault =
+abbrev pub run_text : ℕ → List Core → List Event → List ℕ → Option StepFault → List ℕ
+run_text stop cores trace held fault =
     stop_line stop
     ++ (numbered core_lines cores
+    ++ (out_lines trace
     ++ (held_lines held
-    ++ fault_lines fault))
+    ++ fault_lines fault)))

@@ -4,6 +4,7 @@
 
 mod cores;
 mod fault_lines;
+mod outs;
 mod run;
 mod words;
 

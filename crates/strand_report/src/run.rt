@@ -3,9 +3,11 @@ ghost use Rattle.strand_report.specs.Report.{stop_line, fault_lines, run_text};
 
 use crate::cores::put_cores;
 use crate::fault_lines::{StepFault, put_step_fault};
+use crate::outs::put_outs;
 use crate::words::put_words;
 use itoa::Buffer;
 use strand_base::{OutOfMemory, put_line};
+use strand_events::Trace;
 use strand_exec::CoreState;
 
 /// What a run's report is made of.
@@ -15,6 +17,8 @@ pub struct RunView<'a> {
     pub stop: u64,
     /// The cores as they are then.
     pub cores: &'a [CoreState],
+    /// What the cores did.
+    pub trace: &'a Trace,
     /// The words that the modules hold, from the address 0x40000000 on.
     pub held: &'a [u64],
     /// The store that a module refused at the next step, if it did.
@@ -44,11 +48,12 @@ fn put_fault(into: &mut Vec<u8>, fault: Option<StepFault>) -> Result<(), OutOfMe
 /// `OutOfMemory`: a front of the report is appended.
 pub fn write_run(view: &RunView<'_>, into: &mut Vec<u8>) -> Result<(), OutOfMemory>
     ensures { Puts result
-        (run_text view.now.stop view.now.cores.now view.now.held.now view.now.fault)
+        (run_text view.now.stop view.now.cores.now view.now.trace.now.events view.now.held.now view.now.fault)
         into.old.items into.new.items }
 {
     put_stop(into, view.stop)?;
     put_cores(into, view.cores)?;
+    put_outs(into, view.trace.events())?;
     put_words(into, "pm", 0x4000_0000, view.held)?;
     put_fault(into, view.fault)
 }

@@ -2,7 +2,8 @@ use crate::{
     RunView, StepFault, write_file_fault, write_fill_fault, write_input_fault, write_read_fault,
     write_run, write_words_fault,
 };
-use std::test::Fail;
+use std::test::*;
+use strand_events::{Event, Trace};
 use strand_exec::{CoreState, Life, Trap};
 
 fn at(pc: u64, life: Life) -> CoreState {
@@ -37,11 +38,20 @@ fn texts_are_as_printed(rt: HostRuntime) -> Result<(), Fail> {
         called,
     ];
     let fault = Some(StepFault { module: 0, step: 5 });
+    let quiet = Trace::new(rt.alloc(), 0).ok().ok_or("memory")?;
+    let mut trace = Trace::new(rt.alloc(), 3).ok().ok_or("memory")?;
+    trace.push(Event::Out { core: 1, value: 42 });
+    trace.push(Event::Barrier { core: 0 });
+    trace.push(Event::Out {
+        core: 0,
+        value: u64::MAX,
+    });
     let views = [
         (
             RunView {
                 stop: 4,
                 cores: &[first],
+                trace: &quiet,
                 held: &[0, 0],
                 fault,
             },
@@ -55,6 +65,7 @@ fn texts_are_as_printed(rt: HostRuntime) -> Result<(), Fail> {
             RunView {
                 stop: 200_000,
                 cores: &every,
+                trace: &trace,
                 held: &[1, 0, 0xab],
                 fault: None,
             },
@@ -70,6 +81,8 @@ fn texts_are_as_printed(rt: HostRuntime) -> Result<(), Fail> {
             core 7 pc 0000000010000018 trap call 0000000000000002\n\
             reg 7 x10 000000000000000a\n\
             reg 7 x31 000000000000001f\n\
+            out 1 000000000000002a\n\
+            out 0 ffffffffffffffff\n\
             pm 0000000040000000 0000000000000001\n\
             pm 0000000040000010 00000000000000ab\n",
         ),
