@@ -3,7 +3,7 @@ use strand_isa::{LoadOp, StoreOp};
 
 /// What an instruction does, with the values that it reads from registers.
 #[derive(Clone, Copy)]
-pub(crate) enum Effect {
+pub enum Effect {
     /// A register gets a value.
     Write {
         rd: u8,

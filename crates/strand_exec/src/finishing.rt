@@ -1,6 +1,7 @@
 ghost use Rattle.std.specs.Prelude.{◌≡◌, ◌<◌};
+ghost use Rattle.strand_exec.specs.Effects.{HasRegister};
 ghost use Rattle.strand_exec.specs.Core.{moved_to, with_reg};
-ghost use Rattle.strand_exec.specs.Plan.{finished};
+ghost use Rattle.strand_exec.specs.Plan.{after, finished};
 
 use crate::accesses::load_value;
 use crate::core_state::CoreState;
@@ -26,8 +27,17 @@ pub fn finish(core: &mut CoreState, code: &[u32], sizes: Sizes, loaded: u64)
     requires { core.old.life ≡ Life.Running }
     ensures { core.new ≡ finished core.old code.now sizes loaded }
 {
+    let effect = effect(core, code, sizes);
+    apply(core, effect, loaded);
+}
+
+/// Does what an effect does to the core. `loaded` is the word at the access of a load, and isn't used else.
+pub fn apply(core: &mut CoreState, effect: Effect, loaded: u64)
+    requires { HasRegister effect }
+    ensures { core.new ≡ after core.old loaded effect }
+{
     let next = next_pc(core);
-    match effect(core, code, sizes) {
+    match effect {
         Effect::Write { rd, value } => advance(core, rd, value, next),
         Effect::Jump { rd, link, target } => advance(core, rd, link, target),
         Effect::Goto { target } => core.pc = target,

@@ -3,6 +3,7 @@
 
 mod accesses;
 mod arithmetic;
+mod code;
 mod core_state;
 mod effect;
 mod finishing;
@@ -15,12 +16,14 @@ mod rows;
 mod sizes;
 
 pub use accesses::merged;
+pub use code::Code;
 pub use core_state::CoreState;
-pub use finishing::finish;
+pub use effect::Effect;
+pub use finishing::{apply, finish};
 pub use flat_memory::FlatMemory;
 pub use life::{Life, Trap};
 pub use planned::Plan;
-pub use planning::plan;
+pub use planning::{asked, plan};
 pub use regions::{CODE_BASE, PERSISTENT_BASE, VOLATILE_BASE};
 pub use sizes::Sizes;
 

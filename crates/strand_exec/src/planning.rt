@@ -1,6 +1,7 @@
 ghost use Rattle.std.specs.Prelude.{◌≡◌, ◌<◌};
+ghost use Rattle.strand_exec.specs.Decoded.{IsSound};
 ghost use Rattle.strand_exec.specs.Effects.{HasRegister, IsAligned};
-ghost use Rattle.strand_exec.specs.Plan.{IsPlaced, IsStored, accessing, effect_of, fetched, jumping, plan_of, trapping};
+ghost use Rattle.strand_exec.specs.Plan.{IsPlaced, IsStored, accessing, asked, effect_of, effect_of_instr, fetched, jumping, plan_of, trapping};
 
 use crate::accesses::{is_data, load_bytes, store_bits, store_bytes, store_mask};
 use crate::core_state::CoreState;
@@ -10,7 +11,7 @@ use crate::planned::Plan;
 use crate::regions::CODE_BASE;
 use crate::rows::row;
 use crate::sizes::Sizes;
-use strand_isa::decode;
+use strand_isa::{Instr, decode};
 
 /// The code word at a pc.
 fn fetched(code: &[u32], pc: u64) -> Option<u32>
@@ -81,6 +82,19 @@ fn trapping(sizes: Sizes, effect: Effect) -> Effect
     }
 }
 
+/// The effect of an instruction, if a word is one, with all traps.
+pub(crate) fn effect_of_instr(core: &CoreState, sizes: Sizes, instr: Option<Instr>) -> Effect
+    requires { IsSound instr }
+    ensures value { result ≡ effect_of_instr core.now sizes instr }
+    ensures register { HasRegister result }
+    ensures aligned { IsAligned sizes result }
+{
+    match instr {
+        None => Effect::Traps(Trap::Illegal),
+        Some(i) => trapping(sizes, row(core, &i)),
+    }
+}
+
 /// The effect of the instruction at pc, with all traps.
 #[tactic(auto, unfolding(crate::specs::Plan::effect_of))]
 pub(crate) fn effect(core: &CoreState, code: &[u32], sizes: Sizes) -> Effect
@@ -88,13 +102,10 @@ pub(crate) fn effect(core: &CoreState, code: &[u32], sizes: Sizes) -> Effect
     ensures register { HasRegister result }
     ensures aligned { IsAligned sizes result }
 {
-    let Some(word) = fetched(code, core.pc) else {
-        return Effect::Traps(Trap::Fetch);
-    };
-    let Some(i) = decode(word) else {
-        return Effect::Traps(Trap::Illegal);
-    };
-    trapping(sizes, row(core, &i))
+    match fetched(code, core.pc) {
+        None => Effect::Traps(Trap::Fetch),
+        Some(word) => effect_of_instr(core, sizes, decode(word)),
+    }
 }
 
 /// What the next instruction of a running core asks of the world. Takes no memory and constant time.
@@ -107,7 +118,17 @@ pub fn plan(core: &CoreState, code: &[u32], sizes: Sizes) -> Plan
     ensures placed { IsPlaced sizes result }
     ensures stored { IsStored (effect_of core.now code.now sizes) result }
 {
-    match effect(core, code, sizes) {
+    asked(effect(core, code, sizes), sizes)
+}
+
+/// What an effect asks of the world, whose access was tried in regions of these sizes.
+pub fn asked(effect: Effect, sizes: Sizes) -> Plan
+    requires { IsAligned sizes effect }
+    ensures asks { result ≡ asked effect }
+    ensures placed { IsPlaced sizes result }
+    ensures stored { IsStored effect result }
+{
+    match effect {
         Effect::LoadFrom {
             op: _,
             rd: _,

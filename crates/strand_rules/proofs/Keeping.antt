@@ -9,7 +9,8 @@ use Rattle.strand_base.proofs.Counting.{count_agree, count_mono, list_length, li
 use Rattle.strand_exec.specs.Arith.{merged}
 use Rattle.strand_exec.specs.Core.{Core, Extents}
 use Rattle.strand_exec.specs.Memory.{Memory, word_in, with_word}
-use Rattle.strand_exec.specs.Plan.{IsWord, plan_of, finished}
+use Rattle.strand_exec.specs.Plan.{IsWord, plan_of, finished, asked, after}
+use Rattle.strand_exec.specs.declared.effect.Effect.{Effect}
 use Rattle.strand_exec.specs.declared.life.Life.TheVariants.{Running}
 use Rattle.strand_exec.specs.Plan as plan
 use Rattle.strand_exec.specs.declared.planned.Plan.{Plan}
@@ -152,11 +153,11 @@ unfolding retire
 retire_running p v n core there running = rw (there, running) refl
 
 -- the machine after core n retired its instruction, from the parts that changed
-pub retired_machine : (m : Machine) (n : ℕ) (p : Plan) (core : Core) → Runs m n p → core ≡ get_or m.state.now.cores n core
+pub retired_machine : (m : Machine) (n : ℕ) (effect : Effect) (p : Plan) (core : Core) → Runs m n effect → p ≡ asked effect → core ≡ get_or m.state.now.cores n core
     → record m {
       state = record {
         now = record {
-          cores = slice_set m.state.now.cores n (finished core m.program.code m.program.sizes (loaded m.state.now.memory p));
+          cores = slice_set m.state.now.cores n (after core (loaded m.state.now.memory p) effect);
           memory = memory_after m.state.now.memory p;
           trace = grown m.state.now.trace (event_of n m.state.now.memory p);
         };
@@ -165,6 +166,7 @@ pub retired_machine : (m : Machine) (n : ℕ) (p : Plan) (core : Core) → Runs 
       };
       made = m.made + 1;
     } ≡ retired_in m n
-retired_machine m n p core runs found =
+unfolding plan_of finished
+retired_machine m n effect p core runs plans found =
     let same : core ≡ runs.core = found ∙ get_or_from_slice_get m.state.now.cores n runs.core core runs.there in
-    rw (retire_running m.program m.state.now n runs.core runs.there runs.running, same, runs.planned) refl
+    rw (retire_running m.program m.state.now n runs.core runs.there runs.running, same, plans, runs.effect_is) refl

@@ -8,8 +8,9 @@ use Rattle.strand_exec.specs.Core as cores
 use Rattle.strand_exec.specs.Core.{Extents, fresh}
 use Rattle.strand_events.specs.declared.event.Event.{Event}
 use Rattle.strand_exec.specs.Memory.{Memory}
-use Rattle.strand_exec.specs.Plan.{plan_of, IsPlaced}
-use Rattle.strand_exec.specs.declared.planned.Plan.{Plan}
+use Rattle.strand_exec.specs.Plan.{effect_of}
+use Rattle.strand_exec.specs.Effects.{HasRegister, IsAligned}
+use Rattle.strand_exec.specs.declared.effect.Effect.{Effect}
 use Rattle.strand_exec.specs.declared.life.Life.TheVariants.{Running}
 use Rattle.strand_rules.specs.declared.turn.Turn.{Turn}
 use Rattle.strand_rules.specs.declared.turn.Turn.TheVariants.{Done, Bubble, Fault}
@@ -76,13 +77,14 @@ Steps old new bank bank' step (Fault m) = (turn old.program old.state step ≡ D
 Steps old new bank bank' step (Bubble cause) = (turn old.program old.state step ≡ Bubble cause) × (new ≡ stepped old step) × (bank' ≡ bank)
 Steps old new bank bank' step Done = (turn old.program old.state step ≡ Done) × (new ≡ stepped old step) × StoresOk (stored_by old.state step) bank bank'
 
--- Core n runs, and this is what its next instruction asks of the world.
-pub record Runs (m : Machine) (n : ℕ) (plan : Plan) : Type 0 where
+-- Core n runs, and this is what its next instruction does.
+pub record Runs (m : Machine) (n : ℕ) (effect : Effect) : Type 0 where
   pub core : cores.Core
   pub there : slice_get m.state.now.cores n ≡ Some core
   pub running : core.life ≡ Running
-  pub planned : plan ≡ plan_of core m.program.code m.program.sizes
-  pub placed : IsPlaced m.program.sizes plan
+  pub effect_is : effect ≡ effect_of core m.program.code m.program.sizes
+  pub register : HasRegister effect
+  pub aligned : IsAligned m.program.sizes effect
 
 -- the machine after core n retired its instruction
 abbrev pub retired_in : Machine → ℕ → Machine

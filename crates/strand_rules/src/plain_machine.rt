@@ -1,6 +1,7 @@
 ghost use Rattle.std.specs.Prelude.{◌≡◌, ◌<◌, ◌≤◌, ◌+◌, ◌^◌, ℕ, true, IfOk, IfSome, Some, All, map, length, slice_get};
 ghost use Rattle.strand_exec.specs.Memory.{extents_of};
-ghost use Rattle.strand_exec.specs.Plan.{IsPlaced};
+ghost use Rattle.std.specs.Option.{option_map};
+ghost use Rattle.strand_exec.specs.Plan.{IsPlaced, asked};
 ghost use Rattle.strand_rules.specs.Bank.{Keeps};
 ghost use Rattle.strand_rules.specs.Visible.{event_of, memory_after, loaded, grown, next_plan};
 ghost use Rattle.strand_rules.specs.Cycle.{turn, plan_turn, place_of};
@@ -16,7 +17,7 @@ use std::marker::Model;
 use strand_base::OutOfMemory;
 use strand_events::{Event, Trace};
 use strand_exec::{
-    CoreState, FlatMemory, Life, PERSISTENT_BASE, Plan, Sizes, finish, merged, plan,
+    Code, CoreState, Effect, FlatMemory, Life, PERSISTENT_BASE, Plan, Sizes, apply, asked, merged,
 };
 use strand_image::Image;
 use strand_inputs::Step;
@@ -27,7 +28,7 @@ use strand_inputs::Step;
 /// order of the trace. Each step takes constant time and no memory.
 #[derive(Drop)]
 pub struct PlainMachine {
-    code: Vec<u32>,
+    code: Code,
     sizes: Sizes,
     cores: Vec<CoreState>,
     memory: FlatMemory,
@@ -45,9 +46,9 @@ impl Model for PlainMachine {
 
     ghost Value = { Machine };
 
-    ghost view = { λ m. machine_of m.code.items m.sizes m.cores.items m.memory m.trace.events m.retired.items m.durable m.made m.steps };
+    ghost view = { λ m. machine_of m.code m.sizes m.cores.items m.memory m.trace.events m.retired.items m.durable m.made m.steps };
 
-    ghost invariant = { λ m. IsKept (machine_of m.code.items m.sizes m.cores.items m.memory m.trace.events m.retired.items m.durable m.made m.steps)
+    ghost invariant = { λ m. IsKept (machine_of m.code m.sizes m.cores.items m.memory m.trace.events m.retired.items m.durable m.made m.steps)
         × (m.trace.room ≡ m.steps) × (m.steps ≤ vec_capacity m.retired) };
 }
 
@@ -98,7 +99,7 @@ impl PlainMachine {
             persistent: image.persistent().len() as u32,
         };
         Ok(PlainMachine {
-            code: image.code().to_vec(alloc)?,
+            code: Code::new(alloc, image.code())?,
             sizes,
             cores: fresh_cores(alloc, image.entries())?,
             memory: FlatMemory::copy(alloc, image.volatile(), image.persistent())?,
@@ -152,7 +153,7 @@ impl PlainMachine {
     pub fn flatten(&self) -> Result<FlatMemory, OutOfMemory>
         ensures { IfOk result (λ memory. memory ≡ self.now.state.now.memory) }
     {
-        let alloc = *self.code.allocator();
+        let alloc = *self.cores.allocator();
         FlatMemory::copy(alloc, &self.memory.volatile, &self.memory.persistent)
     }
 
@@ -182,26 +183,29 @@ impl PlainMachine {
         }
     }
 
-    // What the next instruction of core n asks of the world, if the core runs.
-    fn next_plan(&self, n: u32) -> Option<Plan>
-        ensures plan { result ≡ next_plan self.now.program self.now.state.now n }
+    // What the next instruction of core n does, if the core runs.
+    #[tactic(auto, unfolding(strand_exec::specs::Plan::plan_of))]
+    fn next_effect(&self, n: u32) -> Option<Effect>
+        ensures plan { option_map asked result ≡ next_plan self.now.program self.now.state.now n }
         ensures runs { IfSome result (Runs self.now n) }
     {
         let core = self.cores.get(n as usize)?;
         match core.life {
-            Life::Running => Some(plan(core, &self.code, self.sizes)),
+            Life::Running => Some(self.code.effect(core, self.sizes)),
             Life::Halted | Life::Trapped(_) => None,
         }
     }
 
     // Core n, which runs, retires its instruction.
-    fn retire(&mut self, n: u32, plan: Plan)
+    fn retire(&mut self, n: u32, effect: Effect, plan: Plan)
         requires room { self.old.made < self.old.steps }
-        requires runs { Runs self.old n plan }
+        requires runs { Runs self.old n effect }
+        requires plan { plan ≡ asked effect }
+        requires placed { IsPlaced self.old.program.sizes plan }
         ensures { self.new ≡ retired_in self.old n }
     {
         let loaded = act(&mut self.memory, &mut self.trace, n, plan);
-        finish(&mut self.cores[n as usize], &self.code, self.sizes, loaded);
+        apply(&mut self.cores[n as usize], effect, loaded);
         self.retired.push_reserved(n);
         self.made += 1;
     }
@@ -213,13 +217,14 @@ impl PlainMachine {
         ensures machine { self.new ≡ stepped self.old (Core n) }
         ensures kept { IsKept self.old }
     {
-        let Some(plan) = self.next_plan(n) else {
+        let Some(effect) = self.next_effect(n) else {
             self.made += 1;
             return Turn::Bubble(Cause::Ended);
         };
+        let plan = asked(effect, self.sizes);
         let turn = plan_turn(plan, self.durable < self.trace.persists());
         if turn == Turn::Done {
-            self.retire(n, plan);
+            self.retire(n, effect, plan);
         } else {
             self.made += 1;
         }

@@ -22,7 +22,7 @@ pub returns-in-Ok-clause-stands : goal.returns-in-Ok-clause-stands
 returns-in-Ok-clause-stands c =
     let found = c.persist_event.ensures in
     let known = request_known _ _ _ found.0 _ c.self.invariant.0.placed found.1 found.2 in
-    let m = machine_of c.self.inside.code.items c.self.inside.sizes c.self.inside.cores.items c.self.inside.memory c.self.inside.trace.events c.self.inside.retired.items c.self.inside.durable c.self.inside.made c.self.inside.steps in
+    let m = machine_of c.self.inside.code c.self.inside.sizes c.self.inside.cores.items c.self.inside.memory c.self.inside.trace.events c.self.inside.retired.items c.self.inside.durable c.self.inside.made c.self.inside.steps in
     let place : c.request-place.result.0 ≡ place_of (word_at m.state.now.trace found.0) = c.request-place.ensures.place ∙ ap place_of (sym known.word) in
     let value : c.request-place.result.1 ≡ value_at m.state.now.trace found.0 = c.request-place.ensures.value ∙ sym known.value in
     subst (λ (old : Machine). StandsOn old.program.sizes.persistent old.state (record m.state { durable = c.self.inside.durable + 1 }) c.args.bank.now c.store.new.self) c.self.view_is
