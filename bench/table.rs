@@ -18,6 +18,14 @@ enum Event {
     Out { core: u32, value: u64 },
 }
 
+#[allow(dead_code)]
+enum Step {
+    Core(u32),
+    Dispatch(u32),
+    Send(u32, u32, u32),
+    Write(u32),
+}
+
 #[derive(Clone, Copy, PartialEq)]
 enum Life {
     Running,
@@ -214,6 +222,14 @@ impl Machine {
     }
 }
 
+fn step_of(line: &[u8]) -> Step {
+    match line {
+        b"c 0\n" => Step::Core(0),
+        b"w 0\n" => Step::Write(0),
+        _ => panic!("not a step"),
+    }
+}
+
 fn u32_at(bytes: &[u8], at: usize) -> u32 {
     u32::from_le_bytes(bytes[at..at + 4].try_into().unwrap())
 }
@@ -227,9 +243,8 @@ fn main() {
     let bytes = fs::read(&words[3]).unwrap();
     let (code, volatile, persistent) = (u32_at(&bytes, 12) as usize, u32_at(&bytes, 16) as usize, u32_at(&bytes, 20) as usize);
     let data = 28 + 4 * code;
-    let schedule = fs::read(&words[4]).unwrap();
-    let lines = schedule.chunks(4);
-    let stop = if words[5] == "end" { lines.len() } else { words[5].parse().unwrap() };
+    let schedule: Vec<Step> = fs::read(&words[4]).unwrap().chunks(4).map(step_of).collect();
+    let stop = if words[5] == "end" { schedule.len() } else { words[5].parse().unwrap() };
     let initial = u64s(&bytes[data + 8 * volatile..data + 8 * (volatile + persistent)]);
     let mut modules = initial.clone();
     let mut machine = Machine {
@@ -244,8 +259,8 @@ fn main() {
         retired: Vec::with_capacity(stop),
         durable: 0,
     };
-    for line in lines.take(stop) {
-        if line == b"c 0\n" {
+    for step in &schedule[..stop] {
+        if let Step::Core(_) = step {
             machine.core();
         } else if machine.durable < machine.persists.len() {
             if let Event::Store { word, value, .. } = machine.trace[machine.persists[machine.durable] as usize] {
