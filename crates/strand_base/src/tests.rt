@@ -1,7 +1,11 @@
 use super::*;
 use std::alloc::Global;
-use std::fs;
+use std::cell::Cell;
+use std::cmp::min;
+use std::fmt::Display;
+use std::io::ErrorKind;
 use std::process::Abort;
+use std::{fs, io};
 
 #[test]
 fn numbers_are_read(rt: HostRuntime) {
@@ -153,4 +157,57 @@ fn texts_are_put_whole(rt: HostRuntime) {
         put_all(&mut HostSink::new(&rt), b"on standard output\n"),
         Ok(())
     );
+}
+
+// A runtime whose output takes so many bytes in all. Then it is closed, or takes nothing more.
+#[derive(Drop)]
+struct Output {
+    left: Cell<usize>,
+    closes: bool,
+}
+
+impl Print for Output {
+    fn print<D: Display + Drop>(&self, _: D) -> io::Result<()> {
+        Err(io::Error::from(ErrorKind::BrokenPipe))
+    }
+
+    fn println<D: Display + Drop>(&self, _: D) -> io::Result<()> {
+        Err(io::Error::from(ErrorKind::BrokenPipe))
+    }
+
+    fn write_all(&self, _: &[u8]) -> io::Result<()> {
+        Err(io::Error::from(ErrorKind::BrokenPipe))
+    }
+
+    fn write_some(&self, bytes: &[u8]) -> io::Result<usize> {
+        let left = self.left.get();
+        if left == 0 && self.closes {
+            return Err(io::Error::from(ErrorKind::BrokenPipe));
+        }
+        let taken = min(left, bytes.len());
+        self.left.set(left - taken);
+        Ok(taken)
+    }
+}
+
+#[test]
+fn a_closed_output_fails(rt: HostRuntime) {
+    let text = b"twenty-five bytes of text";
+    for (left, closes, answer, rest) in [
+        (0, true, Err(SinkFailed), 0),
+        (10, true, Err(SinkFailed), 0),
+        (10, false, Err(SinkFailed), 0),
+        (26, true, Ok(()), 1),
+    ] {
+        let output = Output {
+            left: Cell::new(left),
+            closes,
+        };
+        assert_eq!(rt;
+            put_all(&mut HostSink::new(&output), text),
+            answer,
+            "{left}"
+        );
+        assert_eq!(rt; output.left.get(), rest, "{left}");
+    }
 }

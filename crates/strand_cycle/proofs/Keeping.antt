@@ -49,7 +49,7 @@ memory_kept m Halt = (refl, refl)
 memory_kept m (Trap trap) = (refl, refl)
 
 -- a store's event is placed where the store's word is a data word
-store_placed : (x : Extents) (n word value : ℕ) (persist : Bool) → x.volatile ≤ 1048576 → IsWord x word → is_persistent word ≡ persist → IsPlaced x.persistent (events.Store n word value persist)
+store_placed : (x : Extents) (n word value : ℕ) (persist : Bool) → x.volatile ≤ 1048576 → IsWord x word → is_persistent word ≡ persist → IsPlaced x.persistent (events.Store persist n word value)
 store_placed x n word value false small at e = tt
 store_placed x n word value true small at e =
     let high : 1073741824 ≤ word = leb-true _ _ e in

@@ -19,8 +19,8 @@ eligible_marked g s n b p h =
     (and_parts (held s.buffered p) (core_at s.now.trace p == n) own).0
 
 placed_event : (words : ℕ) (e : Event) → is_persist e ≡ true → IsPlaced words e → place_of (word_of e) < words
-placed_event words (events.Store core word value true) e placed = placed.0
-placed_event words (events.Store core word value false) e placed = absurd cc
+placed_event words (events.Store true core word value) e placed = placed.0
+placed_event words (events.Store false core word value) e placed = absurd cc
 placed_event words (events.Load core word) e placed = absurd cc
 placed_event words (events.Barrier core) e placed = absurd cc
 placed_event words (events.NewStrand core) e placed = absurd cc

@@ -48,7 +48,7 @@ access_is_no_border t a is border = go (slice_get t a) is border
     go : (o : Option Event) → passes is_access o ≡ true → passes is_barrier_or_join o ≡ true → ⊥
     go None is border = false≢true is
     go (Some (Load core word)) is border = false≢true border
-    go (Some (Store core word value persist)) is border = false≢true border
+    go (Some (Store persist core word value)) is border = false≢true border
     go (Some (Barrier core)) is border = false≢true is
     go (Some (NewStrand core)) is border = false≢true is
     go (Some (Join core)) is border = false≢true is

@@ -20,7 +20,7 @@ weaker test other implies t i h = go (slice_get t i) h
     go (Some e) h = implies e h
 
 pub persist_store : (e : Event) → is_persist e ≡ true → is_store e ≡ true
-persist_store (Store core word value persist) h = refl
+persist_store (Store persist core word value) h = refl
 persist_store (Load core word) h = absurd (false≢true h)
 persist_store (Barrier core) h = absurd (false≢true h)
 persist_store (NewStrand core) h = absurd (false≢true h)
@@ -28,7 +28,7 @@ persist_store (Join core) h = absurd (false≢true h)
 persist_store (Out core value) h = absurd (false≢true h)
 
 pub persist_access : (e : Event) → is_persist e ≡ true → is_access e ≡ true
-persist_access (Store core word value persist) h = refl
+persist_access (Store persist core word value) h = refl
 persist_access (Load core word) h = absurd (false≢true h)
 persist_access (Barrier core) h = absurd (false≢true h)
 persist_access (NewStrand core) h = absurd (false≢true h)
@@ -89,7 +89,7 @@ pub between_from : (test : Event → Bool) (core : ℕ) (t : List Event) (a b k 
 between_from test core t a b k lo hi is c = any_from b (λ k. nat_lt a k && core_event_is test core t k) k hi (and_from (nat_lt a k) (core_event_is test core t k) (lt-ltb a k lo) (and_from (event_is test t k) (core_at t k == core) is (eq-eqb (core_at t k) core c)))
 
 access_begins_none : (e : Event) → is_access e ≡ true → is_new_strand e ≡ false
-access_begins_none (Store core word value persist) h = refl
+access_begins_none (Store persist core word value) h = refl
 access_begins_none (Load core word) h = refl
 access_begins_none (Barrier core) h = absurd (false≢true h)
 access_begins_none (NewStrand core) h = absurd (false≢true h)

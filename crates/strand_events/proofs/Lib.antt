@@ -5,4 +5,5 @@ pub mod Images
 pub mod Consequences
 pub mod Marking
 pub mod Kept
+pub mod Joins
 mod Rows

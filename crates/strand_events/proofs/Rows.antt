@@ -14,7 +14,7 @@ use Rattle.strand_events.proofs.Epochs.{direct_parts}
 
 -- one core stores to A, passes a barrier, stores to B, begins a strand, and stores to C
 first_program : List Event
-first_program = Store 0 1073741824 1 true ∷ Barrier 0 ∷ Store 0 1073741832 1 true ∷ NewStrand 0 ∷ Store 0 1073741840 1 true ∷ []
+first_program = Store true 0 1073741824 1 ∷ Barrier 0 ∷ Store true 0 1073741832 1 ∷ NewStrand 0 ∷ Store true 0 1073741840 1 ∷ []
 
 three_persists : persists_of first_program ≡ 0 ∷ 2 ∷ 4 ∷ []
 unfolding first_program

@@ -11,7 +11,7 @@ is_persistent word = nat_le 1073741824 word
 
 -- a store is a persist exactly where its word is persistent
 abbrev pub IsMarked : Event → Type 0
-IsMarked (Store core word value persist) = persist ≡ is_persistent word
+IsMarked (Store persist core word value) = persist ≡ is_persistent word
 IsMarked _ = Unit {0}
 
 -- the event is of one of eight cores, and marked as a persist exactly where it is one

@@ -3,3 +3,5 @@ pub mod Order
 pub mod Fits
 pub mod Marks
 pub mod TraceSeen
+pub mod Numbers
+pub mod Joins

@@ -8,7 +8,7 @@ use Rattle.strand_base.specs.Counting.{count_below, list_below}
 
 abbrev pub core_of : Event → ℕ
 core_of (Load core word) = core
-core_of (Store core word value persist) = core
+core_of (Store persist core word value) = core
 core_of (Barrier core) = core
 core_of (NewStrand core) = core
 core_of (Join core) = core
@@ -17,25 +17,25 @@ core_of (Out core value) = core
 -- the word that an access touches
 abbrev pub word_of : Event → ℕ
 word_of (Load core word) = word
-word_of (Store core word value persist) = word
+word_of (Store persist core word value) = word
 word_of _ = 0
 
 -- the value that a store leaves in its word
 abbrev pub value_of : Event → ℕ
-value_of (Store core word value persist) = value
+value_of (Store persist core word value) = value
 value_of _ = 0
 
 abbrev pub is_store : Event → Bool
-is_store (Store core word value persist) = true
+is_store (Store persist core word value) = true
 is_store _ = false
 
 abbrev pub is_access : Event → Bool
 is_access (Load core word) = true
-is_access (Store core word value persist) = true
+is_access (Store persist core word value) = true
 is_access _ = false
 
 abbrev pub is_persist : Event → Bool
-is_persist (Store core word value persist) = persist
+is_persist (Store persist core word value) = persist
 is_persist _ = false
 
 abbrev pub is_barrier : Event → Bool

@@ -10,11 +10,12 @@ pub enum Event {
         core: u32,
         word: u64,
     },
+    // `persist` stands first, where it fills a gap: an event takes 24 bytes in place of 32.
     Store {
+        persist: bool,
         core: u32,
         word: u64,
         value: u64,
-        persist: bool,
     },
     Barrier {
         core: u32,

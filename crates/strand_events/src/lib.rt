@@ -2,6 +2,7 @@
 #![tactic(auto)]
 
 mod event;
+mod joined;
 mod laws;
 mod marks;
 mod trace;

@@ -54,3 +54,20 @@ fn strands_and_epochs_are_numbered(rt: HostRuntime) -> Result<(), Fail> {
     assert_eq!(rt; trace.persist_at(2), 5);
     Ok(())
 }
+
+#[test]
+fn joined_persists_are_listed(rt: HostRuntime) -> Result<(), Fail> {
+    let mut trace = Trace::new(rt.alloc(), 9).ok().ok_or("memory")?;
+    trace.push(store(0, 0x4000_0000));
+    trace.push(store(1, 0x4000_0000));
+    trace.push(Event::Join { core: 0 });
+    trace.push(store(0, 0x4000_0008));
+    trace.push(Event::Join { core: 7 });
+    trace.push(store(1, 0x2000_0000));
+    trace.push(store(1, 0x4000_0010));
+    trace.push(Event::Join { core: 1 });
+    trace.push(store(1, 0x4000_0010));
+    let joined = trace.joined().ok().ok_or("memory")?;
+    assert_eq!(rt; joined.as_slice(), [0, 1, 3].as_slice());
+    Ok(())
+}

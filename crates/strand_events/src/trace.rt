@@ -1,12 +1,15 @@
 ghost use Rattle.std.specs.Prelude.{◌≡◌, ◌^◌, ◌<◌, ◌≤◌, [], ◌∷◌, ◌++◌, length, slice_get, Some, IfOk, if◌then◌else◌, vec_len, vec_capacity};
 ghost use Rattle.strand_events.specs.Trace.{core_of, epoch, is_persist, persists_of, strand_number};
 ghost use Rattle.strand_events.specs.Fits.{IsMarked, AllFit};
+ghost use Rattle.strand_events.specs.Numbers.{numbers_of};
+ghost use Rattle.strand_events.specs.Order.{is_joined};
 
 use crate::event::{Event, core_of};
+use crate::joined::joined_numbers;
 use crate::marks::{Marks, NOTHING_MADE, epoch_in, marks_after, strand_in};
 use std::alloc::Global;
 use std::marker::Model;
-use strand_base::OutOfMemory;
+use strand_base::{Numbers, OutOfMemory};
 use strand_inputs::Mode;
 
 /// The events of a run, the oldest first, in room that was taken at the start. An event is named by
@@ -99,6 +102,15 @@ impl Trace {
         ensures { result ≡ epoch mode self.now.events event }
     {
         epoch_in(mode, self.marks[event])
+    }
+
+    /// The numbers of the persists that some core made before its own last join, ascending. It takes
+    /// memory for the list alone, and time linear in the events.
+    pub fn joined(&self) -> Result<Numbers, OutOfMemory>
+        ensures { IfOk result (λ numbers. numbers ≡ numbers_of self.now.events (is_joined self.now.events)) }
+    {
+        let alloc = *self.events.allocator();
+        joined_numbers(alloc, &self.events, &self.persists)
     }
 
     /// Puts an event at the end. It takes no memory.

@@ -1,3 +1,5 @@
+pub mod Bubbles
+pub mod Durable
 pub mod FaultLines
 pub mod Numbered
 pub mod Outs

@@ -12,7 +12,7 @@ use Rattle.strand_events.specs.declared.event.Event.TheVariants.{Load, Store, Ba
 abbrev pub out_line : Event → List ℕ
 out_line (Out core value) = line_text (codes "out" ∷ decimal core ∷ hex16 value ∷ [])
 out_line (Load core word) = []
-out_line (Store core word value persist) = []
+out_line (Store persist core word value) = []
 out_line (Barrier core) = []
 out_line (NewStrand core) = []
 out_line (Join core) = []

@@ -1,5 +1,5 @@
 -- The report of a run: what each line says, and all lines in their order.
-use Rattle.std.specs.Prelude.{ℕ, List, [], ◌∷◌, ◌++◌, ◌==◌, if◌then◌else◌}
+use Rattle.std.specs.Prelude.{ℕ, Bool, List, [], ◌∷◌, ◌++◌, ◌==◌, if◌then◌else◌}
 use Rattle.std.specs.declared.option.Option.{Option}
 use Rattle.std.specs.declared.option.Option.TheVariants.{Some, None}
 use Rattle.std.specs.Fmt.{decimal}
@@ -13,10 +13,14 @@ use Rattle.strand_exec.specs.declared.life.Trap.TheVariants.{Fetch, Target, Ille
 use Rattle.strand_report.specs.declared.fault_lines.StepFault.{StepFault}
 use Rattle.strand_events.specs.declared.event.Event.{Event}
 use Rattle.strand_exec.specs.Core.{Core}
+use Rattle.strand_exec.specs.Memory.{Memory}
+use Rattle.strand_report.specs.declared.bubbles.BubbleAt.{BubbleAt}
+use Rattle.strand_report.specs.Bubbles.{bubble_lines}
+use Rattle.strand_report.specs.Durable.{durable_line}
 use Rattle.strand_report.specs.FaultLines.{step_fault}
 use Rattle.strand_report.specs.Numbered.{numbered}
 use Rattle.strand_report.specs.Outs.{out_lines}
-use Rattle.strand_report.specs.Words.{held_lines}
+use Rattle.strand_report.specs.Words.{held_lines, visible_lines}
 
 -- "stop S": S steps were made
 abbrev pub stop_line : ℕ → List ℕ
@@ -64,3 +68,15 @@ run_text stop cores trace held fault =
     ++ (out_lines trace
     ++ (held_lines held
     ++ fault_lines fault)))
+
+-- the lines of the report to come, in their order
+abbrev pub full_text : ℕ → List Core → List Event → List BubbleAt → Memory → List ℕ → List Bool → Option StepFault → List ℕ
+full_text stop cores trace bubbles memory held marks fault =
+    stop_line stop
+    ++ (numbered core_lines cores
+    ++ (out_lines trace
+    ++ (bubble_lines bubbles
+    ++ (visible_lines memory
+    ++ (held_lines held
+    ++ (durable_line marks
+    ++ fault_lines fault))))))

@@ -2,17 +2,23 @@
 //! (docs/report.md).
 #![tactic(auto)]
 
+mod bubbles;
 mod cores;
+mod durable;
 mod fault_lines;
 mod outs;
 mod run;
+mod visible;
 mod words;
 
+pub use bubbles::{BubbleAt, write_bubbles};
+pub use durable::write_durable;
 pub use fault_lines::{
     StepFault, write_file_fault, write_fill_fault, write_input_fault, write_read_fault,
     write_words_fault,
 };
 pub use run::{RunView, write_run};
+pub use visible::write_visible;
 
 #[cfg(test)]
 mod tests;

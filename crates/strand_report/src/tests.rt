@@ -1,10 +1,11 @@
 use crate::{
-    RunView, StepFault, write_file_fault, write_fill_fault, write_input_fault, write_read_fault,
-    write_run, write_words_fault,
+    BubbleAt, RunView, StepFault, write_bubbles, write_durable, write_file_fault, write_fill_fault,
+    write_input_fault, write_read_fault, write_run, write_visible, write_words_fault,
 };
 use std::test::*;
 use strand_events::{Event, Trace};
-use strand_exec::{CoreState, Life, Trap};
+use strand_exec::{CoreState, FlatMemory, Life, Trap};
+use strand_rules::Cause;
 
 fn at(pc: u64, life: Life) -> CoreState {
     CoreState {
@@ -101,6 +102,52 @@ fn texts_are_as_printed(rt: HostRuntime) -> Result<(), Fail> {
     assert_eq!(rt;
         faults.as_slice(),
         b"fault words\nfault file 2\nfault input 3\nfault module 0 fill\nfault module 1 read\n".as_slice()
+    );
+    Ok(())
+}
+
+#[test]
+fn lines_to_come_are_as_printed(rt: HostRuntime) -> Result<(), Fail> {
+    let causes = [
+        Cause::Ended,
+        Cause::Join,
+        Cause::Conflict,
+        Cause::Queue,
+        Cause::NoItem,
+        Cause::NoRoom,
+        Cause::NotEmpty,
+        Cause::NoEntry,
+        Cause::FlightFull,
+        Cause::OlderWaits,
+    ];
+    let mut bubbles = Vec::new(rt.alloc());
+    for (place, cause) in causes.iter().enumerate() {
+        bubbles.push(BubbleAt {
+            cycle: 3 * place as u64 + 1,
+            cause: *cause,
+        })?;
+    }
+    let mut text = Vec::new(rt.alloc());
+    write_bubbles(&bubbles, &mut text)?;
+    let memory = FlatMemory::copy(rt.alloc(), &[0, 7], &[u64::MAX, 0, 2])
+        .ok()
+        .ok_or("memory")?;
+    write_visible(&memory, &mut text)?;
+    let mut marks = [false; 12];
+    write_durable(&marks, &mut text)?;
+    marks[0] = true;
+    marks[3] = true;
+    marks[11] = true;
+    write_durable(&marks, &mut text)?;
+    assert_eq!(rt;
+        text.as_slice(),
+        b"bubble 1 ended\nbubble 4 join\nbubble 7 conflict\nbubble 10 queue\nbubble 13 noitem\n\
+        bubble 16 noroom\nbubble 19 notempty\nbubble 22 noentry\nbubble 25 flightfull\n\
+        bubble 28 olderwaits\n\
+        vis 0000000020000008 0000000000000007\nvis 0000000040000000 ffffffffffffffff\n\
+        vis 0000000040000010 0000000000000002\n\
+        durable 0:\ndurable 3: 0 3 11\n"
+            .as_slice()
     );
     Ok(())
 }

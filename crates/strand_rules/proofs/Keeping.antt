@@ -57,7 +57,7 @@ persists_more t e =
     omega (arith, old, new, same, more)
 
 -- a store's event is placed where the store's word is a data word
-store_placed : (x : Extents) (n word value : ℕ) (persist : Bool) → x.volatile ≤ 1048576 → IsWord x word → is_persistent word ≡ persist → IsPlaced x.persistent (events.Store n word value persist)
+store_placed : (x : Extents) (n word value : ℕ) (persist : Bool) → x.volatile ≤ 1048576 → IsWord x word → is_persistent word ≡ persist → IsPlaced x.persistent (events.Store persist n word value)
 store_placed x n word value false small at e = tt
 store_placed x n word value true small at e =
     let high : 1073741824 ≤ word = leb-true _ _ e in
@@ -120,8 +120,8 @@ pub record IsRequest (words k : ℕ) (t : List Event) (e : Event) : Type 0 where
   pub address : word_of e ≡ address_of (place_of (word_of e))
 
 placed_event : (words : ℕ) (e : Event) → is_persist e ≡ true → IsPlaced words e → (place_of (word_of e) < words) × (word_of e ≡ address_of (place_of (word_of e)))
-placed_event words (events.Store core word value true) e placed = (placed.0, placed.1)
-placed_event words (events.Store core word value false) e placed = absurd cc
+placed_event words (events.Store true core word value) e placed = (placed.0, placed.1)
+placed_event words (events.Store false core word value) e placed = absurd cc
 placed_event words (events.Load core word) e placed = absurd cc
 placed_event words (events.Barrier core) e placed = absurd cc
 placed_event words (events.NewStrand core) e placed = absurd cc

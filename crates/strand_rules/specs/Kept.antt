@@ -9,7 +9,7 @@ use Rattle.strand_rules.specs.Machine.{Machine}
 
 -- a persist's word is one of so many persistent words
 abbrev pub IsPlaced : ℕ → Event → Type 0
-IsPlaced words (Store core word value true) = (place_of word < words) × (word ≡ address_of (place_of word))
+IsPlaced words (Store true core word value) = (place_of word < words) × (word ≡ address_of (place_of word))
 IsPlaced words _ = Unit {0}
 
 pub record IsKept (m : Machine) : Type 0 where
