@@ -2,3 +2,4 @@ pub mod Codes
 pub mod Word
 pub mod Faults
 pub mod Decode
+pub mod Print

@@ -1,0 +1,4 @@
+pub mod Lookups
+pub mod Lines
+pub mod Counts
+pub mod Fits

@@ -1,0 +1,7 @@
+pub mod Operands
+pub mod Kinds
+pub mod Layout
+pub mod Encode
+pub mod DraftSeen
+pub mod Draft
+pub mod Assemble

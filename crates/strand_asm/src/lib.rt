@@ -1,0 +1,24 @@
+//! The assembler: the image of a text, or its first fault. The language is in docs/assembler.md.
+#![tactic(auto)]
+
+mod addition;
+mod assembling;
+mod coded;
+mod coding;
+mod draft;
+mod drafting;
+mod fault;
+mod kind;
+mod labels;
+mod laying;
+mod layout;
+mod operands;
+mod place;
+mod reading;
+mod targets;
+
+pub use assembling::assemble;
+pub use fault::AsmFault;
+
+#[cfg(test)]
+mod tests;

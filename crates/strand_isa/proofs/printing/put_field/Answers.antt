@@ -1,0 +1,12 @@
+use Rattle.std.proofs.Common.{[], ◌∷◌}
+use Rattle.std.proofs.lemmas.Result.{err_from_is_err_and}
+use Rattle.strand_base.proofs.Fronts.{front_before, puts_after}
+use Rattle.strand_isa.proofs.printing.put_field.Goals as goal
+
+pub returns-in_err-put : goal.returns-in_err-put
+returns-in_err-put c =
+    let p = err_from_is_err_and c.from_residual.result c.from_residual.ensures.1 in
+    rw p.1 (front_before (48 ∷ 120 ∷ []) _ _ _ c.in_err-put.ensures)
+
+pub returns : goal.returns
+returns c = puts_after c.put_short_hex.result (48 ∷ 120 ∷ []) _ _ _ _ c.in_ok-put.ensures c.put_short_hex.ensures
