@@ -84,7 +84,7 @@ grown_is : (t : List Event) (o : Option Event) (k : ℕ) → event_is is_persist
 grown_is t None k is = is
 grown_is t (Some e) k is = event_is_kept t e is_persist k (within is_persist t k is) ∙ is
 
-marks_length : (t : List Event) (o : Option Event) (marks : List Bool) → length marks ≡ length t → length (unmarked marks o) ≡ length (grown t o)
+pub marks_length : (t : List Event) (o : Option Event) (marks : List Bool) → length marks ≡ length t → length (unmarked marks o) ≡ length (grown t o)
 marks_length t None marks same = same
 marks_length t (Some e) marks same = omega (arith, same, length-append t (e ∷ []), length-append marks (false ∷ []))
 

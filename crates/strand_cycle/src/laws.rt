@@ -3,8 +3,9 @@ ghost use Rattle.strand_inputs.specs.Settings.{Settings};
 ghost use Rattle.strand_inputs.specs.declared.step.Step.{Step};
 ghost use Rattle.strand_exec.specs.Core.{Core};
 ghost use Rattle.strand_exec.specs.Memory.{Memory};
+ghost use Rattle.strand_events.specs.Order.{IsDownwardClosed, HoldsJoined};
 ghost use Rattle.strand_rules.specs.Visible.{Program, visible};
-ghost use Rattle.strand_cycle.specs.Cycle.{run, start_at};
+ghost use Rattle.strand_cycle.specs.Cycle.{run, start_at, durable_set};
 
 /// The law over all settings, every program, every start and every list of steps: the cores, the
 /// memory and the trace are those of the visible run over the cores that retired (docs/cycle.md).
@@ -12,4 +13,14 @@ pub fn visible_runs_are_kept()
     ensures { (g : Settings) (p : Program) (cores : List Core) (memory : Memory) (steps : List Step)
         → (run g p (start_at cores memory) steps).now
         ≡ visible p (start_at cores memory).now (run g p (start_at cores memory) steps).retired }
+{}
+
+/// The crash theorem, over all settings, every program, every start and every list of steps
+/// (docs/cycle.md): the durable set is downward-closed in persist order, and holds every persist
+/// that a core made before its last join.
+pub fn durable_sets_are_allowed()
+    ensures closed { (g : Settings) (p : Program) (cores : List Core) (memory : Memory) (steps : List Step)
+        → IsDownwardClosed g.mode (run g p (start_at cores memory) steps).now.trace (durable_set (run g p (start_at cores memory) steps)) }
+    ensures joined { (g : Settings) (p : Program) (cores : List Core) (memory : Memory) (steps : List Step)
+        → HoldsJoined (run g p (start_at cores memory) steps).now.trace (durable_set (run g p (start_at cores memory) steps)) }
 {}

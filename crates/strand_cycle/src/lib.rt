@@ -15,6 +15,9 @@ mod send_rules;
 mod turn;
 mod write_steps;
 
+#[cfg(test)]
+mod tests;
+
 pub use cycle_machine::CycleMachine;
-pub use laws::visible_runs_are_kept;
+pub use laws::{durable_sets_are_allowed, visible_runs_are_kept};
 pub use turn::{Cause, Turn};

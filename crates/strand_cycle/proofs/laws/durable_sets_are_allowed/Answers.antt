@@ -1,0 +1,8 @@
+use Rattle.strand_cycle.proofs.GoodRun.{run_closed, run_joined}
+use Rattle.strand_cycle.proofs.laws.durable_sets_are_allowed.Goals as goal
+
+pub returns-clause-closed : goal.returns-clause-closed
+returns-clause-closed c = run_closed
+
+pub returns-clause-joined : goal.returns-clause-joined
+returns-clause-joined c = run_joined
