@@ -22,16 +22,16 @@ no_lower g s p none x l =
     let at = any_false (length s.now.trace) (λ q. is_lower g.mode s.now.trace (held s.durable) q p) none x (within is_persist s.now.trace x l.persist) in
     then_so (event_is is_persist s.now.trace x && same_strand g.mode s.now.trace x p && nat_lt (epoch g.mode s.now.trace x) (epoch g.mode s.now.trace p)) (held s.durable x) at
     (and_from (event_is is_persist s.now.trace x && same_strand g.mode s.now.trace x p) (nat_lt (epoch g.mode s.now.trace x) (epoch g.mode s.now.trace p))
-      (and_from (event_is is_persist s.now.trace x) (same_strand g.mode s.now.trace x p) l.persist l.strand)
-      (lt-ltb (epoch g.mode s.now.trace x) (epoch g.mode s.now.trace p) l.epoch))
+    (and_from (event_is is_persist s.now.trace x) (same_strand g.mode s.now.trace x p) l.persist l.strand)
+    (lt-ltb (epoch g.mode s.now.trace x) (epoch g.mode s.now.trace p) l.epoch))
 
 no_older : (g : Settings) (s : State) (p : ℕ) → word_waits g s p ≡ false → (x : ℕ) → Older g.mode s.now.trace x p → held s.buffered x ≡ true → ⊥
 no_older g s p none x o b =
     let at = any_false p (λ q. held s.buffered q && same_strand g.mode s.now.trace q p && (word_at s.now.trace q == word_at s.now.trace p)) none x o.earlier in
     both_ways (held s.buffered x && same_strand g.mode s.now.trace x p && (word_at s.now.trace x == word_at s.now.trace p)) at
     (and_from (held s.buffered x && same_strand g.mode s.now.trace x p) (word_at s.now.trace x == word_at s.now.trace p)
-      (and_from (held s.buffered x) (same_strand g.mode s.now.trace x p) b o.strand)
-      (eq-eqb (word_at s.now.trace x) (word_at s.now.trace p) o.word))
+    (and_from (held s.buffered x) (same_strand g.mode s.now.trace x p) b o.strand)
+    (eq-eqb (word_at s.now.trace x) (word_at s.now.trace p) o.word))
 
 pub send_good : (g : Settings) (s : State) (n b j : ℕ) → IsGood g s → (o : Option ℕ) → slice_get (eligible g s n b) j ≡ o → IsGood g (send_after s o)
 send_good g s n b j good None is = good

@@ -24,3 +24,8 @@ pub mod GoodItem
 pub mod GoodSend
 pub mod GoodWrite
 pub mod GoodRun
+pub mod ImageSteps
+pub mod BankSteps
+pub mod Placing
+pub mod Placed
+pub mod Reached

@@ -12,11 +12,10 @@ mod dispatch_steps;
 mod event_tests;
 mod laws;
 mod send_rules;
-mod turn;
-mod write_steps;
-
 #[cfg(test)]
 mod tests;
+mod turn;
+mod write_steps;
 
 pub use cycle_machine::CycleMachine;
 pub use laws::{durable_sets_are_allowed, visible_runs_are_kept};

@@ -3,6 +3,7 @@ ghost use Rattle.strand_inputs.specs.Schedule.{IsBelow};
 
 use super::*;
 use std::alloc::Global;
+use std::process::Abort;
 use std::test::*;
 use strand_image::Image;
 use strand_inputs::{Config, Mode, Step, read_schedule};
@@ -76,33 +77,43 @@ fn play(
     Ok(text)
 }
 
-// Runs a program with one volatile and three persistent words, on a module whose call of that number
-// fails (0 is none). Writes the turns that aren't Done, the persists' marks and how many retired.
+// A program with one volatile and three persistent words.
+fn image_of(alloc: Global, entries: &[u32], code: &[u32]) -> Result<Image, Fail> {
+    let volatile = vec![in alloc; 0; 1]?;
+    let persistent = vec![in alloc; 0; 3]?;
+    let image = Image::make(
+        entries.to_vec(alloc)?,
+        code.to_vec(alloc)?,
+        volatile,
+        persistent,
+    );
+    Ok(image.ok().ok_or("an image")?)
+}
+
+// A bank of one module of three words, whose call of that number fails (0 is none).
+fn bank_of(alloc: Global, failing: u64) -> Result<ModuleBank, Fail> {
+    let mut module = RamModule::new(alloc, 3)?;
+    module.fail_at(failing)?;
+    Ok(ModuleBank::single(module))
+}
+
+// Runs a schedule. Writes the turns that aren't Done, the persists' marks and how many retired.
 fn outcome(
     alloc: Global,
     config: Config,
-    program: (&[u32], &[u32]),
+    image: &Image,
+    bank: &mut ModuleBank,
     schedule: &str,
-    failing: u64,
-) -> Result<String, Fail>
-    requires { length schedule.now < 2 ^ 32 }
-{
-    let (entries, code) = program;
-    let volatile = vec![in alloc; 0; 1]?;
-    let persistent = vec![in alloc; 0; 3]?;
-    let image = Image::make(entries.to_vec(alloc)?, code.to_vec(alloc)?, volatile, persistent)
-        .ok()
-        .ok_or("an image")?;
+) -> Result<String, Fail> {
+    if schedule.len() > 1000 || bank.words() < image.persistent().len() as u64 {
+        return Err("too long".into());
+    }
     let cores = image.entries().len() as u32;
-    let schedule = read_schedule(alloc, schedule.as_bytes(), cores, config.buffers)
-        .ok()
-        .ok_or("a schedule")?;
+    let schedule = read_schedule(alloc, schedule.as_bytes(), cores, config.buffers);
+    let schedule = schedule.ok().ok_or("a schedule")?;
     let steps = schedule.steps();
-    let mut module = RamModule::new(alloc, 3)?;
-    module.fail_at(failing)?;
-    let mut bank = ModuleBank::single(module);
-    let mut machine = CycleMachine::new(alloc, &config, &image, steps.len() as u64)?;
-    let mut text = play(alloc, &mut machine, config.buffers, steps, &mut bank)?;
+    let mut machine = CycleMachine::new(alloc, &config, image, steps.len() as u64)?;
+    let mut text = play(alloc, &mut machine, config.buffers, steps, bank)?;
     for durable in machine.durable() {
         text.push(if *durable { '1' } else { '0' })?;
     }
@@ -110,41 +121,155 @@ fn outcome(
     Ok(text)
 }
 
-#[test]
-fn turns_of_one_core(rt: HostRuntime) -> Result<(), Fail> {
-    let alloc = rt.alloc();
-    let strict = Config { mode: Mode::Strict, ..MACHINE };
-    let short_queue = Config { queue: 1, ..MACHINE };
-    let one_buffer = Config { buffers: 1, ..MACHINE };
-    let one_request = Config { flight: 1, ..MACHINE };
-    let short_ring = Config { ring: 2, ..MACHINE };
-    let strands: (&[u32], &[u32]) = (&[0], STRANDS);
-    let one_word: (&[u32], &[u32]) = (&[0], ONE_WORD);
-    // the machine, the program, the schedule, the module's call that fails, what comes of it
-    for (config, program, schedule, failing, wanted) in [
-        (MACHINE, strands, "c 0 * 7\nd 0 * 5\ns 0 1 0\nw 0\n", 0, "001, 7 retired"),
-        (MACHINE, strands, "c 0 * 7\nd 0 * 5\ns 0 0 0\ns 0 0 0\n", 0, "14 Bubble(NoEntry), 000, 7 retired"),
-        (MACHINE, strands, "c 0 * 8\n", 0, "8 Bubble(Join), 000, 7 retired"),
-        (MACHINE, strands, "c 0 * 7\nd 0 * 5\ns 0 1 0\nw 0\n", 1, "14 Fault { module: 0 }, 000, 7 retired"),
-        (one_request, strands, "c 0 * 7\nd 0 * 5\ns 0 1 0\ns 0 0 0\n", 0, "14 Bubble(FlightFull), 000, 7 retired"),
-        (one_buffer, strands, "c 0 * 7\nd 0 * 4\ns 0 0 0\nw 0\ns 0 0 0\nw 0\nd 0 * 2\n", 0, "11 Bubble(NotEmpty), 110, 7 retired"),
-        (strict, strands, "c 0 * 7\nd 0 * 3\ns 0 0 0\ns 0 0 0\n", 0, "12 Bubble(NoEntry), 000, 7 retired"),
-        (short_queue, one_word, "c 0 * 5\n", 0, "5 Bubble(Queue), 0, 4 retired"),
-        (MACHINE, one_word, "c 0 * 6\nd 0 * 3\ns 0 0 0\ns 0 0 0\nw 1\n", 0, "12 Bubble(OlderWaits), 000, 6 retired"),
-        (short_ring, one_word, "c 0 * 6\nd 0 * 3\n", 0, "9 Bubble(NoRoom), 000, 6 retired"),
-    ] {
-        let text = outcome(alloc, config, program, schedule, failing)?;
-        assert_eq!(rt; text.as_str(), wanted, "{schedule}");
+// Compares what comes of each schedule.
+fn rows(
+    rt: &impl Abort,
+    alloc: Global,
+    config: Config,
+    image: &Image,
+    failing: u64,
+    rows: &[(&str, &str)],
+) -> Result<(), Fail> {
+    for (schedule, wanted) in rows {
+        let mut bank = bank_of(alloc, failing)?;
+        let text = outcome(alloc, config, image, &mut bank, schedule)?;
+        assert_eq!(rt; text.as_str(), *wanted, "{schedule}");
     }
     Ok(())
 }
 
 #[test]
-fn turns_of_two_cores(rt: HostRuntime) -> Result<(), Fail> {
-    let alloc = rt.alloc();
-    let text = outcome(alloc, MACHINE, (&[0, 7], FLAG), "c 0 * 6\nc 1 * 3\nd 0 * 2\ns 0 0 0\nw 0\nc 1 * 3\n", 0)?;
-    assert_eq!(rt; text.as_str(), "9 Bubble(Conflict), 10, 11 retired");
-    let text = outcome(alloc, MACHINE, (&[0, 4], HALVES), "c 0 * 3\nc 1 * 3\nd 0\ns 0 0 0\nw 0\nc 1\n", 0)?;
-    assert_eq!(rt; text.as_str(), "6 Bubble(Conflict), 10, 6 retired");
-    Ok(())
+fn strands_drain_apart(rt: HostRuntime) -> Result<(), Fail> {
+    let image = image_of(rt.alloc(), &[0], STRANDS)?;
+    rows(
+        &rt,
+        rt.alloc(),
+        MACHINE,
+        &image,
+        0,
+        &[
+            ("c 0 * 7\nd 0 * 5\ns 0 1 0\nw 0\n", "001, 7 retired"),
+            (
+                "c 0 * 7\nd 0 * 5\ns 0 0 0\ns 0 0 0\n",
+                "14 Bubble(NoEntry), 000, 7 retired",
+            ),
+            ("c 0 * 8\n", "8 Bubble(Join), 000, 7 retired"),
+        ],
+    )?;
+    rows(
+        &rt,
+        rt.alloc(),
+        MACHINE,
+        &image,
+        1,
+        &[(
+            "c 0 * 7\nd 0 * 5\ns 0 1 0\nw 0\n",
+            "14 Fault { module: 0 }, 000, 7 retired",
+        )],
+    )?;
+    rows(
+        &rt,
+        rt.alloc(),
+        Config {
+            flight: 1,
+            ..MACHINE
+        },
+        &image,
+        0,
+        &[(
+            "c 0 * 7\nd 0 * 5\ns 0 1 0\ns 0 0 0\n",
+            "14 Bubble(FlightFull), 000, 7 retired",
+        )],
+    )?;
+    rows(
+        &rt,
+        rt.alloc(),
+        Config {
+            buffers: 1,
+            ..MACHINE
+        },
+        &image,
+        0,
+        &[(
+            "c 0 * 7\nd 0 * 4\ns 0 0 0\nw 0\ns 0 0 0\nw 0\nd 0 * 2\n",
+            "11 Bubble(NotEmpty), 110, 7 retired",
+        )],
+    )?;
+    rows(
+        &rt,
+        rt.alloc(),
+        Config {
+            mode: Mode::Strict,
+            ..MACHINE
+        },
+        &image,
+        0,
+        &[(
+            "c 0 * 7\nd 0 * 3\ns 0 0 0\ns 0 0 0\n",
+            "12 Bubble(NoEntry), 000, 7 retired",
+        )],
+    )
+}
+
+#[test]
+fn stores_of_one_word_keep_their_order(rt: HostRuntime) -> Result<(), Fail> {
+    let image = image_of(rt.alloc(), &[0], ONE_WORD)?;
+    rows(
+        &rt,
+        rt.alloc(),
+        MACHINE,
+        &image,
+        0,
+        &[(
+            "c 0 * 6\nd 0 * 3\ns 0 0 0\ns 0 0 0\nw 1\n",
+            "12 Bubble(OlderWaits), 000, 6 retired",
+        )],
+    )?;
+    rows(
+        &rt,
+        rt.alloc(),
+        Config {
+            queue: 1,
+            ..MACHINE
+        },
+        &image,
+        0,
+        &[("c 0 * 5\n", "5 Bubble(Queue), 0, 4 retired")],
+    )?;
+    rows(
+        &rt,
+        rt.alloc(),
+        Config { ring: 2, ..MACHINE },
+        &image,
+        0,
+        &[("c 0 * 6\nd 0 * 3\n", "9 Bubble(NoRoom), 000, 6 retired")],
+    )
+}
+
+#[test]
+fn cores_wait_for_each_other(rt: HostRuntime) -> Result<(), Fail> {
+    let flag = image_of(rt.alloc(), &[0, 7], FLAG)?;
+    rows(
+        &rt,
+        rt.alloc(),
+        MACHINE,
+        &flag,
+        0,
+        &[(
+            "c 0 * 6\nc 1 * 3\nd 0 * 2\ns 0 0 0\nw 0\nc 1 * 3\n",
+            "9 Bubble(Conflict), 10, 11 retired",
+        )],
+    )?;
+    let halves = image_of(rt.alloc(), &[0, 4], HALVES)?;
+    rows(
+        &rt,
+        rt.alloc(),
+        MACHINE,
+        &halves,
+        0,
+        &[(
+            "c 0 * 3\nc 1 * 3\nd 0\ns 0 0 0\nw 0\nc 1\n",
+            "6 Bubble(Conflict), 10, 6 retired",
+        )],
+    )
 }
