@@ -21,7 +21,7 @@ use Rattle.strand_rules.proofs.Stored.{set_in_range}
 use Rattle.strand_rules.proofs.Standing.{written_front, image_length}
 use Rattle.strand_cycle.specs.declared.turn.Turn.{Turn}
 use Rattle.strand_cycle.specs.declared.turn.Turn.TheVariants.{Done, Bubble, Fault}
-use Rattle.strand_cycle.specs.Cycle.{State, unmarked, durable_set, front, eligible, next_event, core_after, item_after, send_after, write_after, done_after, after_turn}
+use Rattle.strand_cycle.specs.Cycle.{State, unmarked, durable_set, front, eligible, next_event, core_after, item_after, send_after, write_after, done_after, after_turn, turn, after}
 use Rattle.strand_cycle.specs.Machine.{Machine, Steps, StandsOn, stored_for, stored_by}
 use Rattle.strand_cycle.proofs.Keeping.{within}
 use Rattle.strand_cycle.proofs.Marked.{held_within, map_alike}
@@ -103,6 +103,17 @@ write_stands g s j p count bank bank' good at inside address stored =
     stored ∙ ap (λ (t : Option (List ℕ)). written t place value) stands
     ∙ written_front (image_of words s) base place value (omega (arith, inside, same, image_length words s.now.trace (durable_set s)))
     ∙ ap (λ (xs : List ℕ). front_written xs base) (sym (write_image g s j p good at words (omega (arith, inside, same)) address))
+
+turned_image : (t : Turn) (old new : State) (words : List ℕ) → image_of words new ≡ image_of words old → image_of words (after_turn t old new) ≡ image_of words old
+turned_image Done old new words same = same
+turned_image (Bubble cause) old new words same = refl
+turned_image (Fault m) old new words same = refl
+
+-- core n's step
+pub core_stand : (g : Settings) (p : Program) (s : State) → IsGood g s → (count n : ℕ) (bank : BankSeen) → StandsOn count s (after g p s (Core n)) bank bank
+core_stand g p s good count n bank =
+    same_image count s (after g p s (Core n)) bank bank refl
+    (λ words. turned_image (turn g p s (Core n)) s (core_after p s n (next_event p s.now n)) words (core_image g p s n good words))
 
 err_told : (o : Option Request) (bank bank' : BankSeen) (m : ℕ) → StoresErr o bank bank' m → bank'.told ≡ bank.told
 err_told None bank bank' m h = absurd h
