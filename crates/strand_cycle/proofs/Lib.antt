@@ -28,4 +28,5 @@ pub mod ImageSteps
 pub mod BankSteps
 pub mod Placing
 pub mod Placed
+pub mod PartsKept
 pub mod Reached

@@ -18,5 +18,5 @@ mod turn;
 mod write_steps;
 
 pub use cycle_machine::CycleMachine;
-pub use laws::{durable_sets_are_allowed, visible_runs_are_kept};
+pub use laws::{durable_sets_are_allowed, parts_are_kept, visible_runs_are_kept};
 pub use turn::{Cause, Turn};
