@@ -16,7 +16,7 @@ use Rattle.strand_cycle.specs.Cycle.{State, is_item, gone, front, is_accepted, i
 use Rattle.strand_cycle.specs.Looking.{is_of_strand, is_open, is_in_use, is_busy}
 
 -- a persist is an item in every mode
-persist_item : (mode : Mode) (e : Event) → is_persist e ≡ true → is_item mode e ≡ true
+pub persist_item : (mode : Mode) (e : Event) → is_persist e ≡ true → is_item mode e ≡ true
 persist_item Strict e is = is
 persist_item Epoch e is = or_left (is_persist e) (is_barrier e) is
 persist_item Strand e is = or_left (is_persist e || is_barrier e) (is_new_strand e) (or_left (is_persist e) (is_barrier e) is)

@@ -12,6 +12,7 @@ use Rattle.strand_exec.specs.Plan.{IsWord}
 use Rattle.strand_exec.specs.Plan as plan
 use Rattle.strand_exec.specs.declared.planned.Plan.{Plan}
 use Rattle.strand_exec.specs.declared.planned.Plan.TheVariants.{Plain, Load, Store, Barrier, NewStrand, Join, Out, Halt, Trap}
+use Rattle.strand_exec.proofs.StoresData.{stores_data}
 use Rattle.strand_events.specs.declared.event.Event.{Event}
 use Rattle.strand_events.specs.declared.event.Event.TheVariants as events
 use Rattle.strand_events.specs.Trace.{is_persist, event_is}
@@ -23,11 +24,8 @@ use Rattle.strand_cycle.specs.Cycle.{State, unmarked, gone, send_after, write_af
 use Rattle.strand_cycle.specs.Machine.{Machine, made_to}
 use Rattle.strand_rules.specs.Kept.{IsPlaced}
 use Rattle.strand_cycle.specs.Kept.{IsKept}
+use Rattle.strand_cycle.proofs.Placing.{event_placed}
 use Rattle.strand_cycle.proofs.Marked.{held_unmarked, held_within, held_set, held_other}
-
-all_more : (P : Event → Type 0) (t : List Event) (e : Event) → AllByRecursion P t → P e → AllByRecursion P (t ++ e ∷ [])
-all_more P [] e all p = (p, tt)
-all_more P (x ∷ t) e all p = (all.0, all_more P t e all.1 p)
 
 volatile_kept : (m : Memory) (word value : ℕ) → length (with_word m word value).volatile ≡ length m.volatile
 unfolding with_word
@@ -48,28 +46,6 @@ memory_kept m (Out value) = (refl, refl)
 memory_kept m Halt = (refl, refl)
 memory_kept m (Trap trap) = (refl, refl)
 
--- a store's event is placed where the store's word is a data word
-store_placed : (x : Extents) (n word value : ℕ) (persist : Bool) → x.volatile ≤ 1048576 → IsWord x word → is_persistent word ≡ persist → IsPlaced x.persistent (events.Store persist n word value)
-store_placed x n word value false small at e = tt
-store_placed x n word value true small at e =
-    let high : 1073741824 ≤ word = leb-true _ _ e in
-    elim at.1 [
-      | inl low ↦ absurd (omega (arith, low.1, small, high))
-      | inr region ↦ (omega (arith, region.0, region.1), omega (arith, at.0, region.0))
-    ]
-
-event_placed : (x : Extents) (n : ℕ) (m : Memory) (p : Plan) (t : List Event) → x.volatile ≤ 1048576 → plan.IsPlaced x p
-    → AllByRecursion (IsPlaced x.persistent) t → AllByRecursion (IsPlaced x.persistent) (grown t (event_of n m p))
-event_placed x n m Plain t small placed all = all
-event_placed x n m (Load word) t small placed all = all_more (IsPlaced x.persistent) t _ all tt
-event_placed x n m (Store word mask bits) t small placed all = all_more (IsPlaced x.persistent) t _ all (store_placed x n word (merged (word_in m word) mask bits) (is_persistent word) small placed.0 refl)
-event_placed x n m Barrier t small placed all = all_more (IsPlaced x.persistent) t _ all tt
-event_placed x n m NewStrand t small placed all = all_more (IsPlaced x.persistent) t _ all tt
-event_placed x n m Join t small placed all = all_more (IsPlaced x.persistent) t _ all tt
-event_placed x n m (Out value) t small placed all = all_more (IsPlaced x.persistent) t _ all tt
-event_placed x n m Halt t small placed all = all
-event_placed x n m (Trap trap) t small placed all = all
-
 grown_length : (t : List Event) (o : Option Event) → length (grown t o) ≤ length t + 1
 grown_length t None = omega arith
 grown_length t (Some e) = omega (arith, length-append t (e ∷ []))
@@ -84,7 +60,7 @@ grown_is : (t : List Event) (o : Option Event) (k : ℕ) → event_is is_persist
 grown_is t None k is = is
 grown_is t (Some e) k is = event_is_kept t e is_persist k (within is_persist t k is) ∙ is
 
-marks_length : (t : List Event) (o : Option Event) (marks : List Bool) → length marks ≡ length t → length (unmarked marks o) ≡ length (grown t o)
+pub marks_length : (t : List Event) (o : Option Event) (marks : List Bool) → length marks ≡ length t → length (unmarked marks o) ≡ length (grown t o)
 marks_length t None marks same = same
 marks_length t (Some e) marks same = omega (arith, same, length-append t (e ∷ []), length-append marks (false ∷ []))
 
@@ -107,7 +83,7 @@ kept_core m cores n p same kept room placed =
       few_volatile = kept.few_volatile;
       volatile = memory.0 ∙ kept.volatile;
       persistent = memory.1 ∙ kept.persistent;
-      placed = event_placed m.program.sizes n m.state.now.memory p m.state.now.trace kept.few_volatile placed kept.placed;
+      placed = event_placed m.program.sizes n m.state.now.memory p m.state.now.trace kept.few_volatile (stores_data m.program.sizes p placed) kept.placed;
       made_within = omega arith;
       few_steps = kept.few_steps;
       few_events = omega (arith, grown_length m.state.now.trace event, kept.few_events);

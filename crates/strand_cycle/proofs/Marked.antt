@@ -38,7 +38,7 @@ held_set marks p b lt = get_or-set_same marks p b false lt
 pub held_other : (marks : List Bool) (p : ℕ) (b : Bool) (k : ℕ) → (k ≡ p → ⊥) → held (slice_set marks p b) k ≡ held marks k
 held_other marks p b k other = get_or-set_other marks p k b false other
 
-map_alike : (f h : ℕ → Bool) (xs : List ℕ) → ((k : ℕ) → f k ≡ h k) → map f xs ≡ map h xs
+pub map_alike : {X Y : Type 0} (f h : X → Y) (xs : List X) → ((k : X) → f k ≡ h k) → map f xs ≡ map h xs
 map_alike f h [] same = refl
 map_alike f h (x ∷ xs) same = cc (same x, map_alike f h xs same)
 

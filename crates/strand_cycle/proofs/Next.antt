@@ -12,7 +12,7 @@ use Rattle.strand_events.proofs.Prefix.{event_is_kept, core_kept, word_kept, cor
 use Rattle.strand_cycle.specs.Cycle.{some_wait, must_wait}
 use Rattle.strand_cycle.specs.Looking.{next_strand, holds_up, must_stall}
 
-core_new : (t : List Event) (e : Event) → core_at (t ++ e ∷ []) (length t) ≡ core_of e
+pub core_new : (t : List Event) (e : Event) → core_at (t ++ e ∷ []) (length t) ≡ core_of e
 core_new t e = ap core_in (get_last t e)
 
 number_new : (mode : Mode) (t : List Event) (e : Event) → strand_number mode (t ++ e ∷ []) (length t) ≡ next_strand mode t (core_of e)

@@ -14,13 +14,13 @@ use Rattle.strand_cycle.specs.Machine.{Machine, stepped, SameSetup}
 
 moved_cores : (p : Program) (v : Visible) (n : ℕ) (core : cores.Core) (plan : Option Plan) → length (moved_by p v n core plan).cores ≡ length v.cores
 moved_cores p v n core None = refl
-moved_cores p v n core (Some plan) = length-set _ _ _
+moved_cores p v n core (Some _) = length-set _ _ _
 
 found_cores : (p : Program) (v : Visible) (n : ℕ) (core : Option cores.Core) → length (moved_in p v n core).cores ≡ length v.cores
 found_cores p v n None = refl
 found_cores p v n (Some core) = moved_cores p v n core (plan_by p core core.life)
 
-retired_cores : (p : Program) (v : Visible) (n : ℕ) → length (retire p v n).cores ≡ length v.cores
+pub retired_cores : (p : Program) (v : Visible) (n : ℕ) → length (retire p v n).cores ≡ length v.cores
 unfolding retire
 retired_cores p v n = found_cores p v n (slice_get v.cores n)
 

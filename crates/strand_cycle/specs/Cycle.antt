@@ -1,5 +1,5 @@
 -- The cycle rules: the state of a machine, the turn of a step, and the state after it.
-use Rattle.std.specs.Prelude.{ℕ, suc, ◌+◌, ◌-◌, ◌%◌, Bool, true, false, ◌&&◌, ◌||◌, not, ◌==◌, nat_lt, List, [], ◌∷◌, ◌++◌, slice_get, slice_index, slice_set, remove, replicate, length, Some, None, if◌then◌else◌}
+use Rattle.std.specs.Prelude.{◌≡◌, ℕ, suc, ◌+◌, ◌-◌, ◌%◌, Bool, true, false, ◌&&◌, ◌||◌, not, ◌==◌, nat_lt, List, [], ◌∷◌, ◌++◌, slice_get, slice_index, slice_set, remove, replicate, length, Some, None, if◌then◌else◌}
 use Rattle.std.specs.declared.option.Option.{Option}
 use Rattle.strand_base.specs.Counting.{count_below, list_below, any_below}
 use Rattle.strand_inputs.specs.Settings.{Settings}
@@ -223,6 +223,10 @@ after g p s step = after_turn (turn g p s step) s (done_after g p s step)
 abbrev pub run : Settings → Program → State → List Step → State
 run g p s [] = s
 run g p s (step ∷ steps) = run g p (after g p s step) steps
+
+-- a run reaches the state
+abbrev pub IsReached : Settings → Program → State → Type 0
+IsReached g p s = (cores : List cores.Core) × (memory : Memory) × (steps : List Step) × (s ≡ run g p (start_at cores memory) steps)
 
 -- what a store of event k puts
 abbrev pub request_of : State → ℕ → Request

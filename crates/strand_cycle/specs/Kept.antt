@@ -5,6 +5,7 @@ use Rattle.strand_events.specs.Trace.{is_persist, event_is}
 use Rattle.strand_events.specs.Order.{held}
 use Rattle.strand_cycle.specs.declared.cycle_machine.CycleMachine.TheInside.{Inside}
 use Rattle.strand_rules.specs.Kept.{IsPlaced}
+use Rattle.strand_cycle.specs.Cycle.{IsReached}
 use Rattle.strand_cycle.specs.Machine.{Machine, durable_persists}
 
 -- what a step needs of a machine, and keeps
@@ -43,9 +44,10 @@ seen m = record {
   steps = m.steps;
 }
 
--- The machine has room for all its steps, and marks each persist as durable or not.
+-- A run reaches the machine's state. The machine has room for all its steps, and marks each persist as durable or not.
 pub record IsHeld (m : Inside) : Type 0 where
   pub kept : IsKept (seen m)
+  pub reached : IsReached (seen m).config (seen m).program (seen m).state
   pub persisted : m.persisted.items ≡ durable_persists (seen m).state
   pub room : m.trace.room ≡ m.steps
   pub retired_room : m.steps ≤ vec_capacity m.retired

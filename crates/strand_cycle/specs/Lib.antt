@@ -3,3 +3,4 @@ pub mod Machine
 pub mod Run
 pub mod Looking
 pub mod Kept
+pub mod Parts

@@ -13,8 +13,8 @@ use Rattle.strand_exec.specs.declared.life.Life.TheVariants.{Running}
 use Rattle.strand_events.specs.Trace.{persists_of}
 use Rattle.strand_cycle.specs.declared.turn.Turn.{Turn}
 use Rattle.strand_cycle.specs.declared.turn.Turn.TheVariants.{Done, Bubble, Fault}
-use Rattle.strand_rules.specs.Bank.{BankSeen}
-use Rattle.strand_rules.specs.Cycle.{Request}
+use Rattle.strand_rules.specs.Bank.{BankSeen, front_written}
+use Rattle.strand_rules.specs.Cycle.{Request, persistent_image}
 use Rattle.strand_rules.specs.Machine.{program_of, StoresOk, StoresErr}
 use Rattle.strand_rules.specs.Visible.{Program}
 use Rattle.strand_cycle.specs.Cycle.{State, turn, after, request_of, start_at, durable_set}
@@ -79,3 +79,11 @@ pub record Runs (m : Machine) (n : ℕ) (plan : Plan) : Type 0 where
 -- the machine with another state after one step more
 abbrev pub made_to : Machine → State → Machine
 made_to m s = record m { state = s; made = m.made + 1 }
+
+-- The bank stands for a state: its first words are the image of the durable set over the initial words, the others are those of `base`.
+abbrev pub Stands : List ℕ → Option (List ℕ) → State → BankSeen → Type 0
+Stands words base s bank = bank.told ≡ front_written (persistent_image words s.now.trace (durable_set s)) base
+
+-- A bank that stands for the one state stands for the other afterwards, whatever the initial words and the words behind them.
+abbrev pub StandsOn : ℕ → State → State → BankSeen → BankSeen → Type 0
+StandsOn count old new bank bank' = (words : List ℕ) (base : Option (List ℕ)) → length words ≡ count → Stands words base old bank → Stands words base new bank'

@@ -3,7 +3,7 @@ ghost use Rattle.std.specs.Prelude.{◌≡◌, ◌<◌, IfSome, length};
 ghost use Rattle.strand_events.specs.Fits.{EventFits};
 ghost use Rattle.strand_inputs.specs.declared.step.Step.TheVariants.{Core};
 ghost use Rattle.strand_rules.specs.Visible.{event_of, next_plan};
-ghost use Rattle.strand_cycle.specs.Cycle.{turn, made_turn, core_after};
+ghost use Rattle.strand_cycle.specs.Cycle.{turn, made_turn, core_after, IsReached};
 ghost use Rattle.strand_cycle.specs.Machine.{stepped, made_to, Runs};
 
 use crate::acting::{act, event_of, note};
@@ -56,6 +56,7 @@ impl CycleMachine {
         requires runs { Runs self.old n plan }
         requires event { event ≡ event_of n self.old.state.now.memory plan }
         requires fits { IfSome event EventFits }
+        requires reached { IsReached self.old.config self.old.program (core_after self.old.program self.old.state n event) }
         ensures { self.new ≡ made_to self.old (core_after self.old.program self.old.state n event) }
     {
         let loaded = act(&mut self.memory, plan);
@@ -83,7 +84,7 @@ impl CycleMachine {
         };
         let event = self.next_event(n, plan);
         let turn = self.made_turn(n, event);
-        if turn == Turn::Done {
+        if let Turn::Done = turn {
             self.retire(n, plan, event);
         } else {
             self.made += 1;

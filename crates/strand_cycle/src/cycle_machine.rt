@@ -1,7 +1,9 @@
 ghost use Rattle.std.specs.Prelude.{◌≡◌, ◌<◌, ◌≤◌, IfOk, Some, All, map, length, replicate, slice_get};
 ghost use Rattle.strand_exec.specs.Core.{fresh};
 ghost use Rattle.strand_inputs.specs.Schedule.{IsBelow};
-ghost use Rattle.strand_cycle.specs.Machine.{machine_at, made_to, durable_persists, SameSetup, Steps};
+ghost use Rattle.strand_events.specs.Order.{HoldsJoined, IsDownwardClosed};
+ghost use Rattle.strand_cycle.specs.Cycle.{durable_set};
+ghost use Rattle.strand_cycle.specs.Machine.{machine_at, made_to, durable_persists, SameSetup, StandsOn, Steps};
 
 use crate::{Cause, Turn};
 use std::alloc::Global;
@@ -102,9 +104,12 @@ impl CycleMachine {
         &self.retired
     }
 
-    /// Whether each persist is durable, by the numbers of the persists.
+    /// Whether each persist is durable, by the numbers of the persists. The durable ones are
+    /// downward-closed in persist order, and hold each that a core made before its last join.
     pub fn durable(&self) -> &[bool]
-        ensures { result.now ≡ durable_persists self.now.state }
+        ensures marks { result.now ≡ durable_persists self.now.state }
+        ensures closed { IsDownwardClosed self.now.config.mode self.now.state.now.trace (durable_set self.now.state) }
+        ensures joined { HoldsJoined self.now.state.now.trace (durable_set self.now.state) }
     {
         &self.persisted
     }
@@ -145,14 +150,17 @@ impl CycleMachine {
     }
 
     /// Makes a step, for a core and a buffer of the machine. It takes no memory. A fault comes only where
-    /// the bank refused the step's store, and then nothing else changed.
+    /// the bank refused the step's store, and then nothing else changed. A bank that stood for the state
+    /// before stands for the state after it, whatever the turn.
     pub fn step(&mut self, step: Step, bank: &mut ModuleBank) -> Turn
         requires room { self.old.made < self.old.steps }
         requires step { IsBelow (length self.old.state.now.cores) self.old.config.buffers step }
         requires bank { self.old.program.sizes.persistent ≤ bank.old.size }
         ensures step { Steps self.old self.new bank.old bank.new step result }
         ensures setup { SameSetup self.old self.new bank.old bank.new }
+        ensures stands { StandsOn self.old.program.sizes.persistent self.old.state self.new.state bank.old bank.new }
     {
+        prove!(self.made < self.steps);
         match step {
             Step::Core(n) => self.step_core(n),
             Step::Dispatch(n) => self.step_dispatch(n),

@@ -2,7 +2,7 @@
 ghost use Rattle.std.specs.Prelude.{◌≡◌, ◌<◌, ◌+◌, ◌-◌, ◌^◌, true, IfSome, Some, if◌then◌else◌, length, slice_index, slice_set, vec_capacity};
 ghost use Rattle.strand_events.specs.Trace.{strand_number};
 ghost use Rattle.strand_inputs.specs.declared.step.Step.TheVariants.{Dispatch};
-ghost use Rattle.strand_cycle.specs.Cycle.{turn, front, ring_use, buffer_of, buffer_busy, item_turn, item_after};
+ghost use Rattle.strand_cycle.specs.Cycle.{turn, front, ring_use, buffer_of, buffer_busy, item_turn, item_after, IsReached};
 ghost use Rattle.strand_cycle.specs.Machine.{stepped, made_to};
 
 use crate::dispatch_rules::{buffer_busy, item_at, ring_use};
@@ -77,6 +77,7 @@ impl CycleMachine {
         requires core { n < length self.old.state.now.cores }
         requires within { k < length self.old.state.now.trace }
         requires front { front self.old.config self.old.state n ≡ Some k }
+        requires reached { IsReached self.old.config self.old.program (item_after self.old.state n (Some k)) }
         ensures { self.new ≡ made_to self.old (item_after self.old.state n (Some k)) }
     {
         let persist = is_persist_at(self.trace.events(), k);
@@ -95,7 +96,7 @@ impl CycleMachine {
             return self.bubble(Cause::NoItem);
         };
         let turn = self.item_turn(n, k);
-        if turn == Turn::Done {
+        if let Turn::Done = turn {
             self.dispatch(n, k);
         } else {
             self.made += 1;

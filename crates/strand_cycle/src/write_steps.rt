@@ -3,7 +3,7 @@ ghost use Rattle.std.specs.Prelude.{◌≡◌, ◌<◌, ◌≤◌, ◌==◌, tru
 ghost use Rattle.strand_events.specs.Trace.{event_is, is_persist};
 ghost use Rattle.strand_events.specs.Order.{held};
 ghost use Rattle.strand_inputs.specs.declared.step.Step.TheVariants.{Send, Write};
-ghost use Rattle.strand_cycle.specs.Cycle.{turn, eligible, send_after, older_waits, request_of, write_after};
+ghost use Rattle.strand_cycle.specs.Cycle.{turn, eligible, send_after, older_waits, request_of, write_after, IsReached};
 ghost use Rattle.strand_cycle.specs.Machine.{stepped, made_to, Steps};
 
 use crate::send_rules::{eligible_at, older_waits, persist_number, request};
@@ -43,6 +43,7 @@ impl CycleMachine {
         requires room { self.old.made < self.old.steps }
         requires flight { length self.old.state.flight < self.old.config.flight }
         requires waits { held self.old.state.buffered p ≡ true }
+        requires reached { IsReached self.old.config self.old.program (send_after self.old.state (Some p)) }
         ensures { self.new ≡ made_to self.old (send_after self.old.state (Some p)) }
     {
         self.buffered[p] = false;
@@ -56,6 +57,7 @@ impl CycleMachine {
         ensures turn { result ≡ turn self.old.config self.old.program self.old.state (Send n b j) }
         ensures machine { self.new ≡ stepped self.old (Send n b j) }
     {
+        prove!(self.made < self.steps);
         let Some(p) = self.eligible_at(n, b, j) else {
             return self.bubble(Cause::NoEntry);
         };
@@ -99,6 +101,7 @@ impl CycleMachine {
         requires room { self.old.made < self.old.steps }
         requires request { slice_get self.old.state.flight j ≡ Some p }
         requires persist { event_is is_persist self.old.state.now.trace p ≡ true }
+        requires reached { IsReached self.old.config self.old.program (write_after self.old.state j (Some p)) }
         ensures { self.new ≡ made_to self.old (write_after self.old.state j (Some p)) }
     {
         let number = persist_number(self.trace.events(), p);
@@ -114,6 +117,7 @@ impl CycleMachine {
         requires bank { self.old.program.sizes.persistent ≤ bank.old.size }
         ensures { Steps self.old self.new bank.old bank.new (Write j) result }
     {
+        prove!(self.made < self.steps);
         let Some(p) = self.request_at(j) else {
             return self.bubble(Cause::NoEntry);
         };

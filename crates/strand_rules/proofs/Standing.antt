@@ -47,7 +47,7 @@ pub step_core_stands : (m : Machine) (n : ℕ) → IsKept m → (bank : BankSeen
 unfolding retire
 step_core_stands m n kept bank = λ words base same stands. stands ∙ ap (λ (image : List ℕ). front_written image base) (sym (core_stands m.program m.state n (slice_get m.state.now.cores n) words kept.durable))
 
-written_front : (xs : List ℕ) (base : Option (List ℕ)) (i v : ℕ) → i < length xs → written (front_written xs base) i v ≡ front_written (slice_set xs i v) base
+pub written_front : (xs : List ℕ) (base : Option (List ℕ)) (i v : ℕ) → i < length xs → written (front_written xs base) i v ≡ front_written (slice_set xs i v) base
 written_front xs None i v lt = refl
 written_front xs (Some ws) i v lt = ap Some (rw (length-set xs i v) (set_front xs (drop (length xs) ws) i v lt))
   where
@@ -56,7 +56,7 @@ written_front xs (Some ws) i v lt = ap Some (rw (length-set xs i v) (set_front x
     set_front (x ∷ xs) ys zero v lt = refl
     set_front (x ∷ xs) ys (suc i) v lt = ap (λ (l : List ℕ). x ∷ l) (set_front xs ys i v (omega arith))
 
-image_length : (words : List ℕ) (t : List Event) (set : Set) → length (persistent_image words t set) ≡ length words
+pub image_length : (words : List ℕ) (t : List Event) (set : Set) → length (persistent_image words t set) ≡ length words
 unfolding persistent_image
 image_length words t set = length-map-range_with_len _ 0 (length words)
 

@@ -109,7 +109,7 @@ module _ (t : List Event) (count k : ℕ) (next : slice_get (persists_of t) coun
       (λ j lt persist word. alike j persist (λ same. other (ap (word_at t) (sym same) ∙ word)))
 
 -- a list of values at numbers that follow each other, one of which changes
-set_in_range : (f g : ℕ → ℕ) (a n i v : ℕ) → i < n → g (a + i) ≡ v → ((j : ℕ) → (j ≡ a + i → ⊥) → g j ≡ f j) → map g (range_with_len a n) ≡ set (map f (range_with_len a n)) i v
+pub set_in_range : (f g : ℕ → ℕ) (a n i v : ℕ) → i < n → g (a + i) ≡ v → ((j : ℕ) → (j ≡ a + i → ⊥) → g j ≡ f j) → map g (range_with_len a n) ≡ set (map f (range_with_len a n)) i v
 set_in_range f g a zero i v lt here others = absurd (omega arith)
 set_in_range f g a (suc n) zero v lt here others =
     let first : a + 0 ≡ a = omega arith in

@@ -1,7 +1,7 @@
 use Rattle.std.proofs.Common.{◌≡◌, ◌<◌, ◌+◌, ◌∙◌, arith, true, sym, ap, subst}
 use Rattle.std.specs.Prelude.{Some, slice_set, if◌then◌else◌}
 use Rattle.strand_events.specs.Trace.{event_is, is_persist}
-use Rattle.strand_cycle.specs.Cycle.{gone, front, item_after}
+use Rattle.strand_cycle.specs.Cycle.{gone, front, item_after, IsReached}
 use Rattle.strand_cycle.specs.Machine.{Machine, made_to}
 use Rattle.strand_cycle.specs.Kept.{seen}
 use Rattle.strand_cycle.proofs.Dispatching.{front_few, front_within}
@@ -27,6 +27,7 @@ invariant_of-self c =
     let held = c.self.invariant in
     record {
       kept = rw (d, b) (kept_item m c.args.n c.args.k persist held.kept room (front_within m.config m.state c.args.n c.args.k first) is);
+      reached = rw (d, b, sym is) (subst (λ (n : Machine). IsReached n.config n.program (item_after n.state c.args.n (Some c.args.k))) (sym c.self.view_is) c.requires.reached);
       persisted = held.persisted;
       room = held.room;
       retired_room = held.retired_room;

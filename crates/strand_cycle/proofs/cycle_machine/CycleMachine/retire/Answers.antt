@@ -1,7 +1,7 @@
 use Rattle.std.proofs.Common.{◌≡◌, ◌<◌, arith, length, length-set, map, subst, sym, ap, ◌∙◌}
 use Rattle.strand_exec.specs.Plan.{IsPlaced}
 use Rattle.strand_rules.specs.Visible.{event_of, grown}
-use Rattle.strand_cycle.specs.Cycle.{core_after}
+use Rattle.strand_cycle.specs.Cycle.{core_after, IsReached}
 use Rattle.strand_cycle.specs.Machine.{Machine, Runs, made_to}
 use Rattle.strand_events.specs.Order.{held}
 use Rattle.strand_events.specs.Trace.{persists_of}
@@ -23,8 +23,13 @@ invariant_of-self c =
     let event : c.args.event ≡ event_of c.args.n m.state.now.memory c.args.plan = c.requires.event ∙ ap (λ (m : Machine). event_of c.args.n m.state.now.memory c.args.plan) (sym c.self.view_is) in
     let room : m.made < m.steps = omega (arith, c.requires.room, ap (λ (m : Machine). m.made) c.self.view_is, ap (λ (m : Machine). m.steps) c.self.view_is) in
     let placed : IsPlaced m.program.sizes c.args.plan = subst (λ (m : Machine). IsPlaced m.program.sizes c.args.plan) (sym c.self.view_is) c.requires.runs.placed in
+    let runs : Runs m c.args.n c.args.plan = subst (λ (m : Machine). Runs m c.args.n c.args.plan) (sym c.self.view_is) c.requires.runs in
+    let reached : IsReached m.config m.program (core_after m.program m.state c.args.n c.args.event) = subst (λ (m : Machine). IsReached m.config m.program (core_after m.program m.state c.args.n c.args.event)) (sym c.self.view_is) c.requires.reached in
     record {
       kept = rw (c.act-loaded.ensures.memory, c.note.ensures.events, c.note.ensures.buffered, c.note.ensures.durable, c.push_reserved.ensures.items, event) (kept_core m _ c.args.n c.args.plan (length-set _ _ _) c.self.invariant.kept room placed);
+      reached = rw (c.act-loaded.ensures.memory, c.note.ensures.events, c.note.ensures.buffered, c.note.ensures.durable, c.push_reserved.ensures.items, c.finish.ensures, c.act-loaded.ensures.loaded, c.deref.ensures.value, event)
+          (subst (λ (n : Machine). IsReached n.config n.program n.state) (sym (retired_machine m c.args.n c.args.plan c.index_mut.result.now runs c.index_mut.ensures.value))
+          (subst (λ e. IsReached m.config m.program (core_after m.program m.state c.args.n e)) event reached));
       persisted = c.note.ensures.persisted
           ∙ ap (λ marks. persists_unmarked marks c.args.event) c.self.invariant.persisted
           ∙ sym (marks_grown m.state.now.trace c.args.event m.state.durable c.self.invariant.kept.durable)

@@ -6,6 +6,7 @@ use Rattle.strand_base.specs.Counting.{count_below}
 use Rattle.strand_base.proofs.Counting.{count_strict, list_length}
 use Rattle.strand_events.specs.Order.{held}
 use Rattle.strand_events.specs.Trace.{event_is, is_persist, persists_of}
+use Rattle.strand_cycle.specs.Cycle.{write_after, IsReached}
 use Rattle.strand_cycle.specs.Machine.{Machine}
 use Rattle.strand_cycle.specs.Kept.{seen}
 use Rattle.strand_cycle.proofs.Marked.{marks_set}
@@ -41,6 +42,7 @@ invariant_of-self c =
     let marked = marks_set (length t) (event_is is_persist t) m.state.durable c.args.p true inside is (omega (arith, inside, held_all.kept.durable)) in
     record {
       kept = rw (c.remove.ensures.items) (kept_write m c.args.j c.args.p held_all.kept room (slice_get_within m.state.flight c.args.j c.args.p there));
+      reached = rw (c.remove.ensures.items) (subst (λ (n : Machine). IsReached n.config n.program (write_after n.state c.args.j (Some c.args.p))) (sym c.self.view_is) c.requires.reached);
       persisted = ap (λ k. slice_set c.self.inside.persisted.items k true) number ∙ ap (λ marks. slice_set marks (count_below c.args.p (event_is is_persist t)) true) held_all.persisted ∙ sym marked;
       room = held_all.room;
       retired_room = held_all.retired_room;

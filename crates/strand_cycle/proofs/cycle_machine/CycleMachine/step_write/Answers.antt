@@ -1,0 +1,11 @@
+use Rattle.std.proofs.Common.{sym, subst}
+use Rattle.strand_cycle.specs.Cycle.{IsReached}
+use Rattle.strand_cycle.specs.Machine.{Machine}
+use Rattle.strand_cycle.proofs.Reached.{write_reached}
+use Rattle.strand_cycle.proofs.cycle_machine.CycleMachine.step_write.Goals as goal
+
+pub write-requires-clause-reached : goal.write-requires-clause-reached
+write-requires-clause-reached c =
+    let m = c.args.self.now in
+    let reached : IsReached m.config m.program m.state = subst (λ (m : Machine). IsReached m.config m.program m.state) c.self.view_is c.self.invariant.reached in
+    write_reached m c.args.j c.in-Some.p reached c.in-Some.ensures.request (sym c.if-older_waits.ensures)

@@ -1,0 +1,12 @@
+use Rattle.strand_cycle.proofs.PartsKept.{good_parts, good_in_order, good_settled}
+use Rattle.strand_cycle.proofs.Reached.{reached_good}
+use Rattle.strand_cycle.proofs.laws.parts_are_kept.Goals as goal
+
+pub returns-clause-parts : goal.returns-clause-parts
+returns-clause-parts c = λ g p s reached. good_parts g s (reached_good g p s reached)
+
+pub returns-clause-settled : goal.returns-clause-settled
+returns-clause-settled c = λ g p s reached. good_settled g s (reached_good g p s reached)
+
+pub returns-clause-in_order : goal.returns-clause-in_order
+returns-clause-in_order c = λ g p s reached. good_in_order g s (reached_good g p s reached)
