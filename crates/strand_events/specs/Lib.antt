@@ -3,3 +3,4 @@ pub mod Order
 pub mod Fits
 pub mod Marks
 pub mod TraceSeen
+pub mod Numbers

@@ -166,7 +166,7 @@ module _ (mode : Mode) (t : List Event) (a : ℕ) where
       from_access x same y (at_access z ab) = at_gate i ab (record { access = z; core = (strand_parts mode t i j same).0; earlier = lt; why = inr (y, inl same) })
       from_access x same y (at_gate k ab gated) = elim gated.why [ inl join ↦ absurd (no_access t i x (weaker is_join is_barrier_or_join join_either t i join)) | inr w ↦ absurd (no_access t i x (weaker is_barrier is_barrier_or_join barrier_either t i w.0)) ]
 
-edge_less : (mode : Mode) (t : List Event) (i j : ℕ) → is_edge mode t i j ≡ true → i < j
+pub edge_less : (mode : Mode) (t : List Event) (i j : ℕ) → is_edge mode t i j ≡ true → i < j
 edge_less mode t i j e = ltb-true i j ((and_parts (nat_lt i j) (word_edge t i j || core_edge mode t i j) e).0)
 
 step_core : (mode : Mode) (t : List Event) (a i j : ℕ) → i < j → Reach mode t a i → core_edge mode t i j ≡ true → Reach mode t a j

@@ -26,7 +26,7 @@ get_back [] ys i = let e : 0 + i ≡ i = omega arith in ap (slice_get ys) e
 get_back (x ∷ xs) ys i = let e : suc (length xs) + i ≡ suc (length xs + i) = omega arith in ap (slice_get (x ∷ (xs ++ ys))) e ∙ get_back xs ys i
 
 -- the place of a number that passes
-list_has : (n : ℕ) (f : ℕ → Bool) (i : ℕ) → i < n → f i ≡ true → (m : ℕ) × (slice_get (list_below n f) m ≡ Some i)
+pub list_has : (n : ℕ) (f : ℕ → Bool) (i : ℕ) → i < n → f i ≡ true → (m : ℕ) × (slice_get (list_below n f) m ≡ Some i)
 list_has zero f i lt h = absurd (omega arith)
 list_has (suc n) f i lt h = elim (cases_eq i n) [
   | inl e ↦
