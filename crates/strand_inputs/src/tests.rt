@@ -109,3 +109,25 @@ fn a_stop_is_read_and_placed(rt: HostRuntime) {
     assert!(rt; stop_at(Stop::At(7), 7) == Ok(7));
     assert!(rt; stop_at(Stop::At(8), 7) == Err(StopPast { stop: 8, steps: 7 }));
 }
+
+#[test]
+fn a_crash_image_is_read_and_printed(rt: HostRuntime) -> Result<(), Fail> {
+    let mut words = Words::new(rt.alloc());
+    words.push(0).ok().ok_or("memory")?;
+    words.push(0x0102).ok().ok_or("memory")?;
+    let mut bytes = Vec::new(rt.alloc());
+    print_crash(words.as_slice(), &mut bytes)
+        .ok()
+        .ok_or("memory")?;
+    assert_eq!(rt;
+        bytes.as_slice(),
+        b"\0\0\0\0\0\0\0\0\x02\x01\0\0\0\0\0\0".as_slice()
+    );
+    let again = read_crash(rt.alloc(), &bytes, 2)
+        .ok()
+        .ok_or("a crash image")?;
+    assert_eq!(rt; again.as_slice(), words.as_slice());
+    let fault = InputFault::CrashLength { need: 24, have: 16 };
+    assert!(rt; read_crash(rt.alloc(), &bytes, 3).err() == Some(fault));
+    Ok(())
+}

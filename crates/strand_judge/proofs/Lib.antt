@@ -1,0 +1,8 @@
+pub mod Within
+pub mod Judged
+pub mod Followed
+pub mod Numbered
+pub mod Lacked
+pub mod Gathered
+pub mod Fewer
+pub mod Ruled

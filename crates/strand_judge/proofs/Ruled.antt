@@ -1,0 +1,35 @@
+-- Where a list of values differs from what was found, the set's image differs from the crash image.
+use Rattle.std.proofs.Common.{◌≡◌, ℕ, ◌<◌, true, List, length, refl, sym, ap, ◌∙◌, arith}
+use Rattle.std.specs.Prelude.{slice_index, ◌&&◌, ◌==◌, nat_lt}
+use Rattle.std.proofs.lemmas.Bool.{and_from, eq-eqb, lt-ltb}
+use Rattle.strand_events.specs.declared.event.Event.{Event}
+use Rattle.strand_events.specs.Order.{Set}
+use Rattle.strand_judge.specs.Judged.{Agrees}
+use Rattle.strand_judge.specs.Words.{address, place_of, crash_of}
+use Rattle.strand_judge.specs.Forcing.{at_word, IsImage, DifferFirst, AreSame}
+use Rattle.strand_judge.specs.Verdicts.{IsFirstDifference}
+use Rattle.strand_judge.proofs.Lacked.{has_parts, value_is}
+
+place_again : (k : ℕ) → place_of (address k) ≡ k
+place_again k = omega arith
+
+module _ (t : List Event) (all : Set) (first found values : List ℕ) (same : length first ≡ length found) (i : IsImage t all first values) where
+  agrees_at : (word : ℕ) → (crash_of first found).has word ≡ true → slice_index values (place_of word) ≡ slice_index found (place_of word) → Agrees t (crash_of first found) all word
+  agrees_at word h e = sym (value_is t all first found values same i word h) ∙ e
+
+  pub all_agree : AreSame values found → (word : ℕ) → (crash_of first found).has word ≡ true → Agrees t (crash_of first found) all word
+  all_agree alike word h = agrees_at word h (alike (place_of word) (has_parts t all first found values same i word h).1)
+
+  pub differs_first : (place : ℕ) → DifferFirst values found place → IsFirstDifference t (crash_of first found) all (address place)
+  differs_first place d =
+      let again = place_again place in
+      let within : place_of (address place) < length found = omega (arith, again, d.within) in
+      let h : (crash_of first found).has (address place) ≡ true = and_from (address place == address (place_of (address place))) (nat_lt (place_of (address place)) (length found)) (eq-eqb (address place) (address (place_of (address place))) (ap address (sym again))) (lt-ltb (place_of (address place)) (length found) within) in
+      record {
+        has = h;
+        differs = λ agrees. d.differ (ap (slice_index values) (sym again) ∙ value_is t all first found values same i (address place) h ∙ agrees ∙ ap (slice_index found) again);
+        first = λ other below has.
+            let parts = has_parts t all first found values same i other has in
+            let before : place_of other < place = omega (arith, parts.0, below) in
+            agrees_at other has (d.same (place_of other) before);
+      }

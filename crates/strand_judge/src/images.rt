@@ -1,0 +1,81 @@
+// The image of the marked persists, and where it differs from what was found.
+ghost use Rattle.std.specs.Prelude.{◌≡◌, ◌<◌, length, IfOk, MatchOption};
+ghost use Rattle.strand_events.specs.Order.{held};
+ghost use Rattle.strand_judge.specs.Words.{LieIn};
+ghost use Rattle.strand_judge.specs.Forcing.{IsImage, is_lacking, LacksNone, LacksFirst, DifferFirst, AreSame};
+
+use crate::event_tests::{is_persist, place_of, value_of, word_of};
+use std::alloc::Global;
+use strand_base::OutOfMemory;
+use strand_events::Event;
+
+/// The values of the words in the image of the marked persists, where `first` are their initial values.
+pub(crate) fn image_of(
+    alloc: Global,
+    events: &[Event],
+    marks: &[bool],
+    first: &[u64],
+) -> Result<Vec<u64>, OutOfMemory>
+    requires marks { length marks.now ≡ length events.now }
+    requires within { LieIn events.now (length first.now) }
+    ensures { IfOk result (λ image. IsImage events.now (held marks.now) first.now image.items) }
+{
+    let mut image = first.to_vec(alloc)?;
+    for k in 0..events.len() {
+        if is_persist(events[k]) && marks[k] {
+            image[place_of(word_of(events[k]))] = value_of(events[k]);
+        }
+    }
+    Ok(image)
+}
+
+// Whether event k is a persist that isn't marked, and has the value that was found where the image differs.
+fn is_lacking(events: &[Event], marks: &[bool], image: &[u64], found: &[u64], k: usize) -> bool
+    requires k { k < length events.now }
+    requires marks { length marks.now ≡ length events.now }
+    requires same { length image.now ≡ length found.now }
+    requires within { LieIn events.now (length found.now) }
+    ensures { result ≡ is_lacking events.now (held marks.now) image.now found.now k }
+{
+    let event = events[k];
+    if !is_persist(event) || marks[k] {
+        return false;
+    }
+    let place = place_of(word_of(event));
+    image[place] != found[place] && value_of(event) == found[place]
+}
+
+/// The first such persist.
+pub(crate) fn first_lacking(
+    events: &[Event],
+    marks: &[bool],
+    image: &[u64],
+    found: &[u64],
+) -> Option<usize>
+    requires marks { length marks.now ≡ length events.now }
+    requires same { length image.now ≡ length found.now }
+    requires within { LieIn events.now (length found.now) }
+    ensures { MatchOption result
+        (LacksNone events.now (held marks.now) image.now found.now (length events.now))
+        (LacksFirst events.now (held marks.now) image.now found.now) }
+{
+    for k in 0..events.len() {
+        if is_lacking(events, marks, image, found, k) {
+            return Some(k);
+        }
+    }
+    None
+}
+
+/// The place of the first difference, if there is one.
+pub(crate) fn first_difference(image: &[u64], found: &[u64]) -> Option<usize>
+    requires { length image.now ≡ length found.now }
+    ensures { MatchOption result (AreSame image.now found.now) (DifferFirst image.now found.now) }
+{
+    for k in 0..found.len() {
+        if image[k] != found[k] {
+            return Some(k);
+        }
+    }
+    None
+}

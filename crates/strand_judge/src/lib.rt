@@ -1,0 +1,14 @@
+//! The judge: whether a crash image may have come from a run, by the persist order of its trace.
+#![tactic(auto)]
+
+mod closing;
+mod event_tests;
+mod images;
+mod judging;
+mod laws;
+mod marking;
+mod verdict;
+
+pub use judging::judge;
+pub use laws::least_sets_are_judged;
+pub use verdict::Verdict;

@@ -1,0 +1,4 @@
+pub mod GraphSound
+pub mod GraphComplete
+pub mod LookedBack
+pub mod Listed

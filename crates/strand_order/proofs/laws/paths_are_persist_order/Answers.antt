@@ -1,0 +1,9 @@
+use Rattle.strand_order.proofs.GraphComplete.{before_path}
+use Rattle.strand_order.proofs.GraphSound.{path_before}
+use Rattle.strand_order.proofs.laws.paths_are_persist_order.Goals as goal
+
+pub returns-clause-path : goal.returns-clause-path
+returns-clause-path c = path_before
+
+pub returns-clause-before : goal.returns-clause-before
+returns-clause-before c = before_path
