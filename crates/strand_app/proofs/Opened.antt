@@ -11,7 +11,8 @@ use Rattle.strand_inputs.specs.declared.stop.Stop.{Stop}
 use Rattle.strand_app.specs.FirstForms.{is_machine, image_in, schedule_in}
 use Rattle.strand_app.specs.Inputs.{Inputs, bad, imaged, inputs_of, run_inputs, fetches_of}
 use Rattle.strand_app.specs.World.{IsContent, AreFiles, AreRead, FetchesFirst}
-use Rattle.strand_app.specs.Opening.{FetchesOne, FetchesBytes, FetchesResult, FailsToOpen, fault_of}
+use Rattle.strand_app.specs.Fetching.{FetchesOne, FetchesBytes, FetchesResult}
+use Rattle.strand_app.specs.Opening.{FailsToOpen, fault_of}
 use Rattle.strand_base.specs.declared.files.FetchFault.{FetchFault}
 use Rattle.strand_base.specs.declared.files.FetchFault.TheVariants as faults
 
@@ -37,7 +38,7 @@ any_content (Some held) name = go (held name)
     go (Some bytes) = (bytes, refl)
 
 -- what a file holds stands under its name
-content_of : (told : Option Held) (name content : List ℕ) → IsFile told name content → IsContent told name content
+pub content_of : (told : Option Held) (name content : List ℕ) → IsFile told name content → IsContent told name content
 content_of None name content is = tt
 content_of (Some held) name content is = rw is refl
 

@@ -4,7 +4,7 @@ use Rattle.std.specs.declared.option.Option.{Option}
 use Rattle.strand_base.specs.SinkSeen.{SinkSeen, Takes}
 use Rattle.strand_report.specs.FaultLines.{file_fault, fill_fault, step_fault, read_fault}
 use Rattle.strand_app.specs.declared.status.Status.{Status}
-use Rattle.strand_app.specs.Command.{Command, run}
+use Rattle.strand_app.specs.Command.{Command, asm, list, run}
 use Rattle.strand_app.specs.Ends.{SinkFails}
 use Rattle.strand_app.specs.Runs.{CommandMakes}
 use Rattle.strand_app.specs.World.{World, Fault, absent, fetch, fill, step, read, step_and_read, FetchFails, ShownByBank}
@@ -12,6 +12,8 @@ use Rattle.strand_app.specs.World.{World, Fault, absent, fetch, fill, step, read
 -- the names of a command's files, in order
 abbrev pub names_of : Option Command → List (List ℕ)
 names_of None = []
+names_of (Some (asm text)) = text ∷ []
+names_of (Some (list image)) = image ∷ []
 names_of (Some (run machine image schedule stop)) = machine ∷ image ∷ schedule ∷ []
 
 -- The fetch of a file failed, and the line names that file.

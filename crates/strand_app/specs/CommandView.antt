@@ -1,6 +1,9 @@
 -- The code's command, as the definitions have it.
-use Rattle.strand_app.specs.declared.command.RunCommand.{RunCommand}
-use Rattle.strand_app.specs.Command.{Command, run}
+use Rattle.strand_app.specs.declared.command.Command.{Command as CodeCommand}
+use Rattle.strand_app.specs.declared.command.Command.TheVariants.{Asm, List, Run}
+use Rattle.strand_app.specs.Command.{Command, asm, list, run}
 
-abbrev pub view : RunCommand → Command
-view c = run c.machine.now c.image.now c.schedule.now c.stop
+abbrev pub view : CodeCommand → Command
+view (Asm text) = asm text.now
+view (List image) = list image.now
+view (Run machine image schedule stop) = run machine.now image.now schedule.now stop

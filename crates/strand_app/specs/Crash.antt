@@ -13,7 +13,7 @@ use Rattle.strand_rules.specs.Machine.{program_of, start_of}
 use Rattle.strand_rules.specs.Visible.{Visible, visible}
 use Rattle.strand_app.specs.declared.status.Status.{Status}
 use Rattle.strand_app.specs.declared.status.Status.TheVariants as status
-use Rattle.strand_app.specs.Command.{Command, run}
+use Rattle.strand_app.specs.Command.{Command, asm, list, run}
 use Rattle.strand_app.specs.Inputs.{Inputs, bad, good, run_inputs}
 use Rattle.strand_app.specs.RunAnswer.{state_after, PartFilled, RunAllows}
 use Rattle.strand_app.specs.World.{World, Fault, absent, fetch, fill, step, read, step_and_read, AreFiles, ShownByBank}
@@ -69,6 +69,8 @@ pub record HoldsSome (inputs : List (List ℕ) → Inputs) (names : List (List �
 -- what a call leaves in the bank, however it ends
 abbrev pub CommandHolds : Option Command → World → World → Status → Type 0
 CommandHolds None before after result = after.bank ≡ before.bank
+CommandHolds (Some (asm text)) before after result = after.bank ≡ before.bank
+CommandHolds (Some (list image)) before after result = after.bank ≡ before.bank
 CommandHolds (Some (run machine image schedule stop)) before after result =
     HoldsSome (run_inputs before.bank.size stop) (machine ∷ image ∷ schedule ∷ []) before after result
     ⊎ Holds (RunAllows before.bank.size (length before.bank.faults) stop) (run_inputs before.bank.size stop) (machine ∷ image ∷ schedule ∷ []) before after
@@ -85,7 +87,10 @@ pub record TellsRun (names : List (List ℕ)) (inputs : List (List ℕ) → Inpu
   pub words : OnSome before.bank.told (held ≡ image_after image steps (durable_set (state_after image steps)))
   pub bank : HoldsAllowed image steps before.bank after.bank
 
+-- The commands that step no machine tell nothing of a run.
 abbrev pub CommandTells : Option Command → World → World → SinkSeen → SinkSeen → Type 0
 CommandTells None before after sink sink' = ⊥
+CommandTells (Some (asm text)) before after sink sink' = Unit {0}
+CommandTells (Some (list image)) before after sink sink' = Unit {0}
 CommandTells (Some (run machine image schedule stop)) before after sink sink' =
     TellsRun (machine ∷ image ∷ schedule ∷ []) (run_inputs before.bank.size stop) before after sink sink'

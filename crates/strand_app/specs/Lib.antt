@@ -3,9 +3,11 @@ pub mod FirstForms
 pub mod Inputs
 pub mod World
 pub mod RunAnswer
+pub mod Fetching
 pub mod Opening
 pub mod Stepping
 pub mod Making
+pub mod Convert
 pub mod Command
 pub mod CommandView
 pub mod Ends

@@ -5,28 +5,47 @@ ghost use Rattle.strand_app.specs.CommandView.{view};
 
 use strand_inputs::{Stop, read_stop};
 
-/// The command `run MACHINE IMAGE SCHEDULE STOP`, the only one of the first path.
+/// What the program is to do; files are given by their names.
 #[derive(Clone, Copy)]
-pub struct RunCommand<'a> {
-    pub machine: &'a str,
-    pub image: &'a str,
-    pub schedule: &'a str,
-    pub stop: Stop,
+pub enum Command<'a> {
+    /// `asm TEXT`: the image of an assembler text.
+    Asm { text: &'a str },
+    /// `list IMAGE`: the listing of an image.
+    List { image: &'a str },
+    /// `run MACHINE IMAGE SCHEDULE STOP`: the report of a run.
+    Run {
+        machine: &'a str,
+        image: &'a str,
+        schedule: &'a str,
+        stop: Stop,
+    },
 }
 
 /// The command that the words are. It takes no memory.
-pub fn read_command(words: &[String]) -> Option<RunCommand<'_>>
+pub fn read_command(words: &[String]) -> Option<Command<'_>>
     ensures { option_map view result ≡ command_of (map string_bytes words.now) }
 {
     match words {
+        [word, text] if word.as_str() == "asm" => Some(
+            Command::Asm {
+                text: text.as_str(),
+            },
+        ),
+        [word, image] if word.as_str() == "list" => Some(
+            Command::List {
+                image: image.as_str(),
+            },
+        ),
         [word, machine, image, schedule, stop] if word.as_str() == "run" => {
             let stop = read_stop(stop.as_str())?;
-            Some(RunCommand {
-                machine: machine.as_str(),
-                image: image.as_str(),
-                schedule: schedule.as_str(),
-                stop,
-            })
+            Some(
+                Command::Run {
+                    machine: machine.as_str(),
+                    image: image.as_str(),
+                    schedule: schedule.as_str(),
+                    stop,
+                },
+            )
         }
         _ => None,
     }

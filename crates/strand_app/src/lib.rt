@@ -3,6 +3,8 @@
 
 mod answers;
 mod command;
+mod converting;
+mod fetching;
 mod forms;
 mod opening;
 mod reading;

@@ -1,9 +1,10 @@
 ghost use Rattle.std.specs.Prelude.{◌≡◌, ◌<◌, ◌≤◌, ℕ, List, [], ◌∷◌, length, IfOk, IfErr};
 ghost use Rattle.strand_app.specs.Inputs.{imaged};
-ghost use Rattle.strand_app.specs.Opening.{Fetches, Opens, IsReady, FailsToOpen, inputs_in, fault_of};
+ghost use Rattle.strand_app.specs.Opening.{Opens, IsReady, FailsToOpen, inputs_in, fault_of};
 ghost use Rattle.std.specs.Prelude.{Some};
 ghost use Rattle.strand_inputs.specs.declared.stop.Stop.{Stop};
 
+use crate::fetching::fetch;
 use crate::forms::{is_machine, read_first_image, read_first_schedule};
 use std::alloc::Global;
 use strand_base::{FetchFault, Files, OutOfMemory};
@@ -41,25 +42,6 @@ impl From<OutOfMemory> for OpenFault {
 
     fn from(_: OutOfMemory) -> Self {
         OpenFault::OutOfMemory
-    }
-}
-
-// The bytes of a file, or `None` where it is longer than its limit.
-fn fetch<F: Files>(
-    alloc: Global,
-    name: &str,
-    limit: usize,
-    files: &mut F,
-) -> Result<Option<Vec<u8>>, FetchFault>
-    requires { limit < usize.MAX }
-    ensures { Fetches (λ bytes. bytes.items) name.now limit (F.seen files.old) (F.seen files.new) result }
-{
-    let mut bytes = Vec::new(alloc);
-    match files.fetch(name, limit, &mut bytes) {
-        Ok(()) => Ok(Some(bytes)),
-        Err(FetchFault::TooLong) => Ok(None),
-        Err(FetchFault::Failed) => Err(FetchFault::Failed),
-        Err(FetchFault::OutOfMemory) => Err(FetchFault::OutOfMemory),
     }
 }
 

@@ -1,14 +1,16 @@
 ghost use Rattle.std.specs.Prelude.{◌≡◌, map, string_bytes, IfOk, OnErr};
-ghost use Rattle.std.specs.Prelude.{None};
+ghost use Rattle.std.specs.Prelude.{None, Some};
 ghost use Rattle.strand_report.specs.FaultLines.{words_fault};
 ghost use Rattle.strand_app.specs.Causes.{FileCause, ModuleCause, SinkCause, MemoryCause};
 ghost use Rattle.strand_app.specs.Command.{command_of};
 ghost use Rattle.strand_app.specs.Crash.{CommandTells, CommandHolds};
 ghost use Rattle.strand_app.specs.Ends.{Ends};
-ghost use Rattle.strand_app.specs.Runs.{Runs};
+ghost use Rattle.strand_app.specs.CommandView.{view};
+ghost use Rattle.strand_app.specs.Runs.{Runs, CommandMakes, CommandLeaves};
 ghost use Rattle.strand_app.specs.World.{world};
 
-use crate::command::read_command;
+use crate::command::{Command, read_command};
+use crate::converting::{convert_image, convert_text};
 use crate::run::run;
 use crate::{Made, Status};
 use std::alloc::Global;
@@ -67,6 +69,28 @@ pub fn strand_main<F: Files, K: Sink>(
     run_command(alloc, words, files, out, bank)
 }
 
+// What a command makes.
+fn make<F: Files>(
+    alloc: Global,
+    command: Command<'_>,
+    files: &mut F,
+    bank: &mut ModuleBank,
+) -> Result<Made, OutOfMemory>
+    ensures made { IfOk result (λ made. CommandMakes (Some (view command)) (world (F.seen files.old) bank.old) (world (F.seen files.new) bank.new) made.status made.text.items) }
+    ensures memory { OnErr result (CommandLeaves (view command) (world (F.seen files.old) bank.old) (world (F.seen files.new) bank.new)) }
+{
+    match command {
+        Command::Asm { text } => convert_text(alloc, text, files),
+        Command::List { image } => convert_image(alloc, image, files),
+        Command::Run {
+            machine,
+            image,
+            schedule,
+            stop,
+        } => run(alloc, machine, image, schedule, stop, files, bank),
+    }
+}
+
 // The whole call, by its command.
 fn run_command<F: Files, K: Sink>(
     alloc: Global,
@@ -80,15 +104,7 @@ fn run_command<F: Files, K: Sink>(
     match read_command(words) {
         None => put_text(out, Status::Words, b"fault words\n"),
         Some(command) => {
-            let made = run(
-                alloc,
-                command.machine,
-                command.image,
-                command.schedule,
-                command.stop,
-                files,
-                bank,
-            );
+            let made = make(alloc, command, files, bank);
             finish(out, made)
         }
     }
