@@ -5,3 +5,4 @@ pub mod Encode
 pub mod DraftSeen
 pub mod Draft
 pub mod Assemble
+pub mod Listing

@@ -12,6 +12,7 @@ mod kind;
 mod labels;
 mod laying;
 mod layout;
+mod listing;
 mod operands;
 mod place;
 mod reading;
@@ -19,6 +20,7 @@ mod targets;
 
 pub use assembling::assemble;
 pub use fault::AsmFault;
+pub use listing::list;
 
 #[cfg(test)]
 mod tests;

@@ -1,4 +1,4 @@
-use crate::{AsmFault, assemble};
+use crate::{AsmFault, assemble, list};
 use std::test::Fail;
 use strand_asm_lines::{LineFault, LineKind};
 use strand_image::{Quantity, write_image};
@@ -8,16 +8,24 @@ const EXAMPLE: &str =
     ".entry 0\n.code\nlui x2, 0x40000\naddi x1, x0, 1\nsd x1, 0(x2)\npersistbarrier\n\
     sd x1, 8(x2)\nnewstrand\nsd x1, 16(x2)\njoinstrand\nebreak\n.volatile\n.persist\n.space 3\n";
 
+const LISTING: &str = ".entry 13\n.entry 1\n.code\naddi x0, x0, 0\njalr x0, 0(x1)\naddi x1, x2, 0\n\
+    addi x1, x0, -2048\nlui x1, 0x1\naddiw x1, x1, -2048\nlui x2, 0x80000\naddiw x2, x2, 0\n\
+    lui x3, 0x40000\naddiw x3, x3, 8\njal x0, -40\nbeq x0, x0, -4\njal x1, 4\nfence\n.word 0x0ff0008f\n\
+    .volatile\n.space 2\n.persist\n.word 0xffffffffffffffff\n.word 0x0000000000000002\n";
+
 const IMAGE: [u8; 88] = *b"STRANDP1\x01\0\0\0\x09\0\0\0\0\0\0\0\x03\0\0\0\0\0\0\0\
     \x37\x01\0\x40\x93\0\x10\0\x23\x30\x11\0\x0b\0\0\0\x23\x34\x11\0\x0b\x10\0\0\
     \x23\x38\x11\0\x0b\x20\0\0\x73\0\x10\0\0\0\0\0\0\0\0\0\0\0\0\0\0\0\0\0\0\0\0\0\0\0\0\0";
 
 #[test]
-fn a_program_is_assembled(rt: HostRuntime) -> Result<(), Fail> {
+fn a_program_is_assembled_and_listed(rt: HostRuntime) -> Result<(), Fail> {
     let image = assemble(rt.alloc(), EXAMPLE.as_bytes())?;
     let mut bytes = Vec::new(rt.alloc());
     write_image(&image, &mut bytes)?;
     assert_eq!(rt; bytes.as_slice(), IMAGE.as_slice());
+    let mut text = Vec::new(rt.alloc());
+    list(&image, &mut text)?;
+    assert_eq!(rt; text.as_slice(), EXAMPLE.as_bytes());
     Ok(())
 }
 
@@ -25,7 +33,7 @@ fn a_program_is_assembled(rt: HostRuntime) -> Result<(), Fail> {
 fn short_forms_and_labels_are_words(rt: HostRuntime) -> Result<(), Fail> {
     let text =
         "a: nop\nret\nmv x1, x2\nli x1, -2048\nli x1, 2048\nli x2, -2147483648\nla x3, d\nb: j a\n\
-        beq x0, x0, b\njal x1, c\nc: fence\n.persist\n.word -1\nd: .word 2\n.volatile\n.space 2\n.entry c\n.entry 1";
+        beq x0, x0, b\njal x1, c\nc: fence\n.word 0x0ff0008f\n.persist\n.word -1\nd: .word 2\n.volatile\n.space 2\n.entry c\n.entry 1";
     let image = assemble(rt.alloc(), text.as_bytes())?;
     let code = [
         0x0000_0013,
@@ -42,11 +50,15 @@ fn short_forms_and_labels_are_words(rt: HostRuntime) -> Result<(), Fail> {
         0xfe00_0ee3,
         0x0040_00ef,
         0x0ff0_000f,
+        0x0ff0_008f,
     ];
     assert_eq!(rt; image.code(), code.as_slice());
     assert_eq!(rt; image.entries(), [13, 1].as_slice());
     assert_eq!(rt; image.volatile(), [0, 0].as_slice());
     assert_eq!(rt; image.persistent(), [u64::MAX, 2].as_slice());
+    let mut listing = Vec::new(rt.alloc());
+    list(&image, &mut listing)?;
+    assert_eq!(rt; str::from_utf8(&listing)?, LISTING);
     Ok(())
 }
 
