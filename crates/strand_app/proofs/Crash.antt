@@ -16,7 +16,7 @@ use Rattle.strand_rules.specs.Visible.{Visible}
 use Rattle.strand_rules.proofs.Allowed.{first_closed, Good, run_good, start_good}
 use Rattle.strand_app.specs.declared.status.Status.{Status}
 use Rattle.strand_app.specs.declared.status.Status.TheVariants as status
-use Rattle.strand_app.specs.Command.{Command, run}
+use Rattle.strand_app.specs.Command.{Command, asm, list, run}
 use Rattle.strand_app.specs.Crash.{visible_after, image_after, HoldsAllowed, InputsHold, MayHold, CommandHolds, CommandTells}
 use Rattle.strand_app.specs.Inputs.{Inputs, bad, good, run_inputs}
 use Rattle.strand_app.specs.RunAnswer.{good_answer, inputs_answer, state_after, StandsAfter, InputsRead, InputsLeave, MayLeave}
@@ -88,6 +88,8 @@ all_left i f p steps before after e none leaves =
 module _ (before after : World) (sink sink' : SinkSeen) (result : Status) where
   made_holds : (command : Option Command) (end : Status) (text : List ℕ) → CommandMakes command before after end text → CommandHolds command before after result
   made_holds None end text made = ap (λ (w : World). w.bank) made.2
+  made_holds (Some (asm text)) end put made = made.leaves
+  made_holds (Some (list image)) end put made = made.leaves
   made_holds (Some (run m i s stop)) end text made =
       inr (record {
         contents = made.contents;
@@ -100,6 +102,8 @@ module _ (before after : World) (sink sink' : SinkSeen) (result : Status) where
 
   pub crash_of : (command : Option Command) → Runs command before after sink sink' result → CommandHolds command before after result
   crash_of None (inl up) = absurd up
+  crash_of (Some (asm text)) (inl up) = up.2
+  crash_of (Some (list image)) (inl up) = up.2
   crash_of (Some (run m i s stop)) (inl up) =
       let may = up.2 in
       inl (record { memory = up.0; contents = may.0; files = may.1; holds = of_may (run_inputs before.bank.size stop may.0) before.bank after.bank may.3 })
@@ -111,6 +115,8 @@ module _ (before after : World) (sink sink' : SinkSeen) (result : Status) where
     where
       go : (command : Option Command) → Put before after sink sink' result command → CommandTells command before after sink sink'
       go None put = let other = sym e ∙ put.made.0 in cc
+      go (Some (asm text)) put = tt
+      go (Some (list image)) put = tt
       go (Some (run m i s stop)) put =
           let inputs = run_inputs before.bank.size stop put.made.contents in
           let cause = of_absent inputs put.made.fault put.made.held (sym put.made.status ∙ e) in

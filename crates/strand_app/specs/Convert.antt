@@ -6,7 +6,7 @@ use Rattle.strand_base.specs.FilesSeen.{FilesSeen}
 use Rattle.strand_image.specs.Parts.{Parts}
 use Rattle.strand_image.specs.Image.{image_of, image_bytes}
 use Rattle.strand_image.specs.declared.fault.ImageFault.{ImageFault}
-use Rattle.strand_asm.specs.Assembly.{assembled}
+use Rattle.strand_asm.specs.Assemble.{assembled}
 use Rattle.strand_asm.specs.Listing.{listing}
 use Rattle.strand_asm.specs.declared.fault.AsmFault.{AsmFault}
 use Rattle.strand_report.specs.FaultLines.{file_fault, input_fault}
@@ -14,7 +14,7 @@ use Rattle.strand_rules.specs.Bank.{BankSeen}
 use Rattle.strand_app.specs.declared.status.Status.{Status}
 use Rattle.strand_app.specs.declared.status.Status.TheVariants as status
 use Rattle.strand_app.specs.RunAnswer.{answer}
-use Rattle.strand_app.specs.World.{Answer, Fault, absent, fetch, fill, step, read, step_and_read, Makes, world}
+use Rattle.strand_app.specs.World.{Answer, Fault, absent, fetch, Makes, world}
 
 -- what a command makes of a file's bytes; the file is at fault where it makes nothing
 abbrev pub Conversion : Type 0

@@ -1,7 +1,5 @@
 -- What the files of a run say, fetched one after the other.
-use Rattle.std.specs.Prelude.{◌≡◌, ℕ, ◌<◌, ◌≤◌, List, length, take, Some, None, Ok, Err, IfSome}
-use Rattle.std.specs.declared.option.Option.{Option}
-use Rattle.std.specs.declared.result.Result.{Result}
+use Rattle.std.specs.Prelude.{◌≡◌, ℕ, ◌≤◌, List, length, take}
 use Rattle.strand_base.specs.FilesSeen.{FilesSeen}
 use Rattle.strand_base.specs.declared.files.FetchFault.{FetchFault}
 use Rattle.strand_base.specs.declared.files.FetchFault.TheVariants as faults

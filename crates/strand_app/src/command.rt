@@ -9,9 +9,13 @@ use strand_inputs::{Stop, read_stop};
 #[derive(Clone, Copy)]
 pub enum Command<'a> {
     /// `asm TEXT`: the image of an assembler text.
-    Asm { text: &'a str },
+    Asm {
+        text: &'a str,
+    },
     /// `list IMAGE`: the listing of an image.
-    List { image: &'a str },
+    List {
+        image: &'a str,
+    },
     /// `run MACHINE IMAGE SCHEDULE STOP`: the report of a run.
     Run {
         machine: &'a str,
@@ -26,26 +30,20 @@ pub fn read_command(words: &[String]) -> Option<Command<'_>>
     ensures { option_map view result ≡ command_of (map string_bytes words.now) }
 {
     match words {
-        [word, text] if word.as_str() == "asm" => Some(
-            Command::Asm {
-                text: text.as_str(),
-            },
-        ),
-        [word, image] if word.as_str() == "list" => Some(
-            Command::List {
-                image: image.as_str(),
-            },
-        ),
+        [word, text] if word.as_str() == "asm" => Some(Command::Asm {
+            text: text.as_str(),
+        }),
+        [word, image] if word.as_str() == "list" => Some(Command::List {
+            image: image.as_str(),
+        }),
         [word, machine, image, schedule, stop] if word.as_str() == "run" => {
             let stop = read_stop(stop.as_str())?;
-            Some(
-                Command::Run {
-                    machine: machine.as_str(),
-                    image: image.as_str(),
-                    schedule: schedule.as_str(),
-                    stop,
-                },
-            )
+            Some(Command::Run {
+                machine: machine.as_str(),
+                image: image.as_str(),
+                schedule: schedule.as_str(),
+                stop,
+            })
         }
         _ => None,
     }

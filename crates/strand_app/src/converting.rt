@@ -11,17 +11,14 @@ use strand_base::{FetchFault, Files, OutOfMemory};
 use strand_image::{ImageFault, read_image, write_image};
 
 /// The image of the assembler text of this name.
-pub fn convert_text<F: Files>(
-    alloc: Global,
-    name: &str,
-    files: &mut F,
-) -> Result<Made, OutOfMemory>
+pub fn convert_text<F: Files>(alloc: Global, name: &str, files: &mut F) -> Result<Made, OutOfMemory>
     ensures { IfOk result (λ made. Converts asm_text name.now (F.seen files.old) (F.seen files.new) made.status made.text.items) }
 {
     match fetch(alloc, name, 4_194_304, files) {
         Ok(Some(bytes)) => image_of_text(alloc, &bytes),
         Ok(None) => input_fault(alloc, 1),
-        Err(fault) => fetch_fault(alloc, fault),
+        Err(FetchFault::Failed) => file_fault(alloc, 1),
+        Err(FetchFault::OutOfMemory | FetchFault::TooLong) => Err(OutOfMemory),
     }
 }
 
@@ -36,17 +33,8 @@ pub fn convert_image<F: Files>(
     match fetch(alloc, name, 4_194_304, files) {
         Ok(Some(bytes)) => listing_of_image(alloc, &bytes),
         Ok(None) => input_fault(alloc, 1),
-        Err(fault) => fetch_fault(alloc, fault),
-    }
-}
-
-// The answer where the one file could not be fetched.
-fn fetch_fault(alloc: Global, fault: FetchFault) -> Result<Made, OutOfMemory>
-    ensures { Gives Status.FileFault (Rattle.strand_report.specs.FaultLines.file_fault 1) result }
-{
-    match fault {
-        FetchFault::OutOfMemory => Err(OutOfMemory),
-        FetchFault::Failed | FetchFault::TooLong => file_fault(alloc, 1),
+        Err(FetchFault::Failed) => file_fault(alloc, 1),
+        Err(FetchFault::OutOfMemory | FetchFault::TooLong) => Err(OutOfMemory),
     }
 }
 

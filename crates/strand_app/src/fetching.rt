@@ -4,7 +4,7 @@ ghost use Rattle.strand_app.specs.Fetching.{Fetches};
 use std::alloc::Global;
 use strand_base::{FetchFault, Files};
 
-/// The bytes of a file, or `None` where it is longer than its limit in bytes.
+/// The bytes of a file, or `None` where it is longer than its limit in bytes; the answer is never `TooLong`.
 pub fn fetch<F: Files>(
     alloc: Global,
     name: &str,

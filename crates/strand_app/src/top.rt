@@ -76,8 +76,8 @@ fn make<F: Files>(
     files: &mut F,
     bank: &mut ModuleBank,
 ) -> Result<Made, OutOfMemory>
-    ensures made { IfOk result (λ made. CommandMakes (Some (view command)) (world (F.seen files.old) bank.old) (world (F.seen files.new) bank.new) made.status made.text.items) }
-    ensures memory { OnErr result (CommandLeaves (view command) (world (F.seen files.old) bank.old) (world (F.seen files.new) bank.new)) }
+    ensures made { IfOk result (λ made. CommandMakes (Some (view command.entry)) (world (F.seen files.old) bank.old) (world (F.seen files.new) bank.new) made.status made.text.items) }
+    ensures memory { OnErr result (CommandLeaves (view command.entry) (world (F.seen files.old) bank.old) (world (F.seen files.new) bank.new)) }
 {
     match command {
         Command::Asm { text } => convert_text(alloc, text, files),
