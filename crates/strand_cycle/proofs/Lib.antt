@@ -30,3 +30,4 @@ pub mod Placing
 pub mod Placed
 pub mod PartsKept
 pub mod Reached
+pub mod Waiting
