@@ -1,8 +1,8 @@
 -- A strand begins in an empty buffer.
-use Rattle.std.proofs.Common.{◌≡◌, ℕ, suc, ◌+◌, ◌<◌, ◌≤◌, Bool, true, false, ◌&&◌, ◌⊎◌, inl, inr, List, [], ◌∷◌, ◌++◌, length, refl, sym, ap, subst, ◌∙◌, arith}
-use Rattle.std.specs.Prelude.{Some, None, slice_get, not, ◌%◌, ◌==◌}
+use Rattle.std.proofs.Common.{◌≡◌, ℕ, ◌+◌, ◌<◌, ◌≤◌, Bool, true, inl, inr, List, [], ◌∷◌, ◌++◌, length, refl, sym, ap, subst, ◌∙◌, arith}
+use Rattle.std.specs.Prelude.{Some, None, slice_get, ◌%◌, ◌==◌}
 use Rattle.std.specs.declared.option.Option.{Option}
-use Rattle.std.proofs.lemmas.Bool.{and_from, eq-eqb, true≢false, false≢true}
+use Rattle.std.proofs.lemmas.Bool.{and_from, eq-eqb, false≢true}
 use Rattle.strand_base.specs.Counting.{count_below}
 use Rattle.strand_base.proofs.Counting.{count_strict}
 use Rattle.strand_inputs.specs.declared.mode.Mode.{Mode}
@@ -11,7 +11,7 @@ use Rattle.strand_events.specs.declared.event.Event.{Event}
 use Rattle.strand_events.specs.declared.event.Event.TheVariants as events
 use Rattle.strand_events.specs.Trace.{passes, is_persist, is_new_strand, core_at, event_is, core_event_is, strand_number}
 use Rattle.strand_events.specs.Order.{Set}
-use Rattle.strand_events.proofs.Prefix.{event_is_kept, core_kept, core_event_kept, number_kept}
+use Rattle.strand_events.proofs.Prefix.{core_kept, number_kept}
 use Rattle.strand_cycle.specs.Cycle.{is_item}
 use Rattle.strand_cycle.specs.Parts.{rank}
 use Rattle.strand_cycle.proofs.Growing.{new_or_old, was, rank_kept, items_kept}
@@ -65,9 +65,9 @@ begins_none (Some (events.Out core value)) begins is = false≢true begins
 
 strand_rises : (mode : Mode) (t : List Event) (j k : ℕ) → mode ≡ Strand → event_is is_new_strand t j ≡ true → core_at t j ≡ core_at t k → j < k → strand_number mode t j < strand_number mode t k
 strand_rises mode t j k is begins c lt = rw is (
-  let test = core_event_is is_new_strand (core_at t j) t in
-  let more : count_below j test < count_below k test = count_strict j j k test (omega arith) lt (and_from (event_is is_new_strand t j) (core_at t j == core_at t j) begins (eq-eqb (core_at t j) (core_at t j) refl)) in
-  subst (λ n. count_below j test < count_below k (core_event_is is_new_strand n t)) c more)
+    let test = core_event_is is_new_strand (core_at t j) t in
+    let more : count_below j test < count_below k test = count_strict j j k test (omega arith) lt (and_from (event_is is_new_strand t j) (core_at t j == core_at t j) begins (eq-eqb (core_at t j) (core_at t j) refl)) in
+    subst (λ n. count_below j test < count_below k (core_event_is is_new_strand n t)) c more)
 
 -- the strand after a begin has a greater number
 pub begun_before : (mode : Mode) (t : List Event) (j k : ℕ) → event_is is_new_strand t j ≡ true → event_is (is_item mode) t j ≡ true → core_at t j ≡ core_at t k → j < k → strand_number mode t j < strand_number mode t k

@@ -1,5 +1,5 @@
 -- A dispatch keeps the buffers of strands apart.
-use Rattle.std.proofs.Common.{◌≡◌, ℕ, suc, ◌+◌, ◌<◌, ◌≤◌, true, false, ◌&&◌, ◌⊎◌, inl, inr, List, length, refl, sym, ap, ◌∙◌, arith}
+use Rattle.std.proofs.Common.{◌≡◌, ℕ, ◌+◌, ◌<◌, true, ◌&&◌, ◌⊎◌, inl, inr, List, length, sym, ap, ◌∙◌, arith}
 use Rattle.std.specs.Prelude.{Some, not, slice_get, slice_index, slice_set, ◌%◌, ◌==◌}
 use Rattle.std.proofs.lemmas.Bool.{cases_eq, cases_lt, and_parts, and_from, eqb-true, eq-eqb}
 use Rattle.strand_base.specs.Counting.{count_below}
@@ -16,7 +16,7 @@ use Rattle.strand_cycle.proofs.Ranks.{persist_ranks, same_rank}
 use Rattle.strand_cycle.proofs.Dispatching.{found}
 use Rattle.strand_cycle.proofs.Turns.{then_so}
 use Rattle.strand_cycle.proofs.PartsKept.{rank_accepted}
-use Rattle.strand_cycle.proofs.Begun.{Taken, Begins, AreEmptied, begins_none, begun_before}
+use Rattle.strand_cycle.proofs.Begun.{Taken, AreEmptied, begins_none, begun_before}
 use Rattle.strand_cycle.proofs.RingSteps.{item_done}
 
 module _ (g : Settings) (s : State) (n k : ℕ) (first : front g s n ≡ Some k) (there : n < length s.dispatched) where

@@ -1,8 +1,7 @@
 -- What every run keeps of its buffers, rings and requests.
-use Rattle.std.proofs.Common.{◌≡◌, ℕ, zero, suc, ◌+◌, ◌<◌, ◌≤◌, Bool, true, false, inl, inr, List, [], ◌∷◌, ◌++◌, length, refl, sym, ap, subst, ◌∙◌, arith, length-append, length-set}
-use Rattle.std.specs.Prelude.{Some, None, slice_get, slice_index, slice_set, remove, if◌then◌else◌, ◌==◌}
+use Rattle.std.proofs.Common.{◌≡◌, ℕ, ◌<◌, ◌≤◌, Bool, true, inl, inr, List, [], ◌∷◌, ◌++◌, length, refl, sym, ap, subst, ◌∙◌, arith, length-append}
+use Rattle.std.specs.Prelude.{Some, None, slice_get, slice_index, slice_set, ◌==◌}
 use Rattle.std.specs.declared.option.Option.{Option}
-use Rattle.std.proofs.Math.Path.{fun_ext}
 use Rattle.std.proofs.lemmas.Bool.{and_parts, eqb-true, eq-eqb, both_ways, false≢true}
 use Rattle.std.proofs.lemmas.Option.{slice_get_within}
 use Rattle.std.proofs.lemmas.List.Edits.{length-remove}
@@ -22,17 +21,17 @@ use Rattle.strand_cycle.specs.declared.turn.Turn.TheVariants.{Done, Bubble, Faul
 use Rattle.strand_cycle.specs.Cycle.{State, is_item, gone, front, eligible, turn, item_turn, send_turn, next_event, unmarked, core_after, item_after, send_after, write_after, done_after, after_turn, after, run, start_at}
 use Rattle.strand_cycle.proofs.Keeping.{within}
 use Rattle.strand_cycle.proofs.MarkSets.{held_grown, held_set}
-use Rattle.strand_cycle.proofs.Sets.{with_, with_old}
+use Rattle.strand_cycle.proofs.Sets.{with_old}
 use Rattle.strand_cycle.proofs.Retired.{retired_trace}
 use Rattle.strand_cycle.proofs.Turns.{if_done}
-use Rattle.strand_cycle.proofs.Good.{IsGood, start_good}
+use Rattle.strand_cycle.proofs.Good.{IsGood}
 use Rattle.strand_cycle.proofs.GoodRun.{step_good}
 use Rattle.strand_cycle.proofs.Rings.{uses_fewer}
 use Rattle.strand_cycle.proofs.Begun.{AreEmptied, emptied_grown}
 use Rattle.strand_cycle.proofs.BegunItem.{emptied_item}
-use Rattle.strand_cycle.proofs.RingSteps.{RingsFit, ringed, rings_grown}
+use Rattle.strand_cycle.proofs.RingSteps.{RingsFit, rings_grown}
 use Rattle.strand_cycle.proofs.RingItem.{rings_item}
-use Rattle.strand_cycle.specs.Cycle.{is_of_ring, ring_use}
+use Rattle.strand_cycle.specs.Cycle.{is_of_ring}
 
 pub record Fits (g : Settings) (t : List Event) (dispatched : List ℕ) (flight : List ℕ) (durable : List Bool) : Type 0 where
   pub emptied : AreEmptied g.mode g.buffers t (slice_index dispatched) (held durable)

@@ -1,17 +1,17 @@
 -- A core's step keeps the invariant.
-use Rattle.std.proofs.Common.{◌≡◌, ℕ, zero, suc, ◌<◌, ◌≤◌, Bool, true, false, ◌⊎◌, inl, inr, List, [], ◌∷◌, ◌++◌, length, sym, ap, subst, ◌∙◌, arith, length-append}
-use Rattle.std.proofs.lemmas.Bool.{cases_eq, cases_Bool, and_parts, and_from, false≢true}
+use Rattle.std.proofs.Common.{◌≡◌, ℕ, suc, ◌<◌, ◌≤◌, Bool, true, false, ◌⊎◌, inl, inr, List, [], ◌∷◌, ◌++◌, length, sym, ap, subst, ◌∙◌, arith, length-append}
+use Rattle.std.proofs.lemmas.Bool.{cases_eq, cases_Bool, and_parts, and_from}
 use Rattle.strand_inputs.specs.declared.mode.Mode.{Mode}
 use Rattle.strand_events.specs.declared.event.Event.{Event}
 use Rattle.strand_base.specs.Counting.{count_below}
-use Rattle.strand_events.specs.Trace.{is_persist, is_access, is_join, core_of, core_in, core_at, passes, event_is, core_event_is, same_strand}
+use Rattle.strand_events.specs.Trace.{is_persist, is_access, is_join, core_of, core_at, passes, event_is, core_event_is, same_strand}
 use Rattle.strand_events.specs.Order.{Set, directly_before, conflicts, stands_between, core_orders, is_joined}
 use Rattle.strand_cycle.specs.Cycle.{is_item}
 use Rattle.strand_base.proofs.Counting.{get_last, count_agree, count_mono, at_or_below}
 use Rattle.strand_events.proofs.Prefix.{event_is_kept, core_kept, word_kept, core_event_kept, strand_kept, epoch_kept, directly_kept}
 use Rattle.strand_events.proofs.Epochs.{epochs_rise, strand_flip, direct_parts, conflict_word, core_linked, between_parts, between_from}
 use Rattle.strand_events.proofs.Chain.{AllDurableTo, Linked}
-use Rattle.strand_cycle.specs.Parts.{Accepted, Sent, Older, Lower, rank}
+use Rattle.strand_cycle.specs.Parts.{Accepted, Older, Lower, rank}
 use Rattle.strand_cycle.proofs.Keeping.{within as event_within}
 use Rattle.strand_cycle.proofs.Next.{core_new}
 use Rattle.strand_cycle.proofs.Ordered.{Ordered}

@@ -1,7 +1,7 @@
 -- The persists of a buffer that were dispatched and aren't durable are of one strand.
-use Rattle.std.proofs.Common.{◌≡◌, ℕ, zero, suc, ◌+◌, ◌<◌, ◌≤◌, Bool, true, false, ◌&&◌, ◌||◌, inl, inr, List, length, refl, sym, ap, subst, ◌∙◌, arith}
+use Rattle.std.proofs.Common.{◌≡◌, ℕ, zero, suc, ◌+◌, ◌<◌, ◌≤◌, Bool, true, ◌||◌, inl, inr, List, sym, ap, subst, ◌∙◌, arith}
 use Rattle.std.specs.Prelude.{slice_index, ◌%◌, ◌==◌}
-use Rattle.std.proofs.lemmas.Bool.{cases_eq, cases_Bool, cases_order, and_parts, and_from, or_right, eqb-true, eq-eqb, both_ways}
+use Rattle.std.proofs.lemmas.Bool.{cases_Bool, cases_order, and_parts, or_right, eqb-true, both_ways}
 use Rattle.strand_base.specs.Counting.{count_below}
 use Rattle.strand_base.proofs.Counting.{count_yes, count_no, count_mono}
 use Rattle.strand_inputs.specs.Settings.{Settings}
@@ -11,10 +11,10 @@ use Rattle.strand_events.specs.declared.event.Event.{Event}
 use Rattle.strand_events.specs.Trace.{is_persist, is_barrier, is_new_strand, core_at, event_is, core_event_is, strand_number}
 use Rattle.strand_events.specs.Order.{held}
 use Rattle.strand_events.proofs.Epochs.{weaker}
-use Rattle.strand_cycle.specs.Cycle.{State, is_item, gone, buffer_of, is_accepted}
+use Rattle.strand_cycle.specs.Cycle.{State, is_item, gone, buffer_of}
 use Rattle.strand_cycle.specs.Parts.{rank, IsOpen, FitBuffers}
 use Rattle.strand_cycle.proofs.PartsKept.{accepted_rank}
-use Rattle.strand_cycle.proofs.Begun.{Begins, AreEmptied}
+use Rattle.strand_cycle.proofs.Begun.{Begins}
 use Rattle.strand_cycle.proofs.Fits.{IsFit}
 
 -- the last number below n that passes, where some do

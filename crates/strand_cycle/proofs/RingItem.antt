@@ -1,6 +1,6 @@
 -- A dispatch keeps the rings.
 use Rattle.std.proofs.Common.{◌≡◌, ℕ, suc, ◌+◌, ◌<◌, ◌≤◌, Bool, true, false, ◌&&◌, inl, inr, List, length, refl, sym, ap, subst, ◌∙◌, arith}
-use Rattle.std.specs.Prelude.{Some, nat_lt, slice_index, slice_set}
+use Rattle.std.specs.Prelude.{Some, nat_lt, slice_set}
 use Rattle.std.proofs.lemmas.Bool.{cases_eq, cases_Bool, cases_lt, and_parts, lt-ltb, le-ltb}
 use Rattle.strand_base.specs.Counting.{count_below}
 use Rattle.strand_inputs.specs.Settings.{Settings}

@@ -1,7 +1,7 @@
 -- No strand uses more places than its ring has.
-use Rattle.std.proofs.Common.{◌≡◌, ℕ, suc, ◌+◌, ◌<◌, ◌≤◌, Bool, true, false, ◌&&◌, inl, inr, List, [], ◌∷◌, ◌++◌, length, refl, sym, ap, ◌∙◌, arith}
-use Rattle.std.specs.Prelude.{Some, nat_lt, not, slice_index, slice_set, ◌==◌, if◌then◌else◌}
-use Rattle.std.proofs.lemmas.Bool.{cases_eq, cases_Bool, cases_lt, and_parts, both_ways, eqb-true, eq-eqb, ltb-true, lt-ltb, le-ltb, false_from_ne_true}
+use Rattle.std.proofs.Common.{◌≡◌, ℕ, ◌+◌, ◌<◌, ◌≤◌, Bool, true, false, ◌&&◌, inl, inr, List, [], ◌∷◌, ◌++◌, length, refl, sym, ap, ◌∙◌, arith}
+use Rattle.std.specs.Prelude.{Some, nat_lt, slice_index, ◌==◌, if◌then◌else◌}
+use Rattle.std.proofs.lemmas.Bool.{cases_Bool, cases_lt, and_parts, both_ways, eq-eqb, ltb-true, false_from_ne_true}
 use Rattle.strand_base.specs.Counting.{count_below, any_below}
 use Rattle.strand_base.proofs.Counting.{any_false, any_true, count_agree}
 use Rattle.strand_inputs.specs.Settings.{Settings}
@@ -13,15 +13,12 @@ use Rattle.strand_events.proofs.Prefix.{event_is_kept, core_event_kept, strand_k
 use Rattle.strand_events.proofs.Epochs.{strand_parts}
 use Rattle.strand_cycle.specs.declared.turn.Cause.TheVariants as causes
 use Rattle.strand_cycle.specs.declared.turn.Turn.TheVariants.{Done, Bubble}
-use Rattle.strand_cycle.specs.Cycle.{State, is_item, gone, front, is_dispatched, is_accepted, is_of_ring, ring_use, buffer_of, buffer_busy, item_turn}
+use Rattle.strand_cycle.specs.Cycle.{State, is_item, is_dispatched, is_accepted, is_of_ring, ring_use, buffer_of, buffer_busy, item_turn}
 use Rattle.strand_cycle.specs.Looking.{state_of}
 use Rattle.strand_cycle.proofs.Marked.{held_more}
-use Rattle.strand_cycle.proofs.MarkSets.{number_set, number_other}
-use Rattle.strand_cycle.proofs.Ranks.{same_rank}
 use Rattle.strand_cycle.proofs.Growing.{new_or_old, items_kept, length_grown}
-use Rattle.strand_cycle.proofs.Dispatching.{found, accepted_past}
 use Rattle.strand_cycle.proofs.Turns.{if_done, so_not}
-use Rattle.strand_cycle.proofs.Rings.{uses, uses_agree, uses_past, uses_none, uses_one}
+use Rattle.strand_cycle.proofs.Rings.{uses_agree, uses_past, uses_none}
 
 -- a state as far as rings go
 abbrev pub ringed : List Event → List ℕ → List Bool → State
