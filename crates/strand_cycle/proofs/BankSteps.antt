@@ -1,22 +1,21 @@
 -- A bank that stood for the state before a step stands for the state after it.
-use Rattle.std.proofs.Common.{◌≡◌, ℕ, suc, ◌+◌, ◌<◌, ◌≤◌, Bool, true, false, inl, inr, List, [], ◌∷◌, ◌++◌, length, refl, sym, ap, subst, ◌∙◌, arith}
+use Rattle.std.proofs.Common.{◌≡◌, ℕ, ◌+◌, ◌<◌, Bool, true, inl, inr, List, [], ◌∷◌, ◌++◌, length, refl, sym, ap, subst, ◌∙◌, arith}
 use Rattle.std.specs.Prelude.{Some, None, slice_get, slice_set, slice_index}
 use Rattle.std.specs.List.{AllByRecursion, range_with_len}
 use Rattle.std.specs.declared.option.Option.{Option}
-use Rattle.std.proofs.lemmas.Bool.{cases_eq, eq-eqb, ne_eqb}
 use Rattle.strand_base.specs.ModuleSeen.{written}
 use Rattle.strand_inputs.specs.Settings.{Settings}
 use Rattle.strand_inputs.specs.declared.step.Step.{Step}
 use Rattle.strand_inputs.specs.declared.step.Step.TheVariants.{Core, Dispatch, Send, Write}
 use Rattle.strand_events.specs.declared.event.Event.{Event}
 use Rattle.strand_events.specs.Trace.{is_persist, word_at, value_at, event_is}
-use Rattle.strand_events.specs.Order.{Set, held, image, IsDownwardClosed}
+use Rattle.strand_events.specs.Order.{Set, held, image}
 use Rattle.strand_events.proofs.Images.{closed_word}
 use Rattle.strand_rules.specs.Bank.{BankSeen, front_written}
 use Rattle.strand_rules.specs.Cycle.{Request, place_of, address_of, persistent_image}
 use Rattle.strand_rules.specs.Kept.{IsPlaced}
 use Rattle.strand_rules.specs.Machine.{StoresOk, StoresErr}
-use Rattle.strand_rules.specs.Visible.{Program, grown, retire}
+use Rattle.strand_rules.specs.Visible.{Program, grown}
 use Rattle.strand_rules.proofs.Stored.{set_in_range}
 use Rattle.strand_rules.proofs.Standing.{written_front, image_length}
 use Rattle.strand_cycle.specs.declared.turn.Turn.{Turn}

@@ -37,7 +37,7 @@ untold false c l q e = refl
 untold true false l q e = refl
 untold true true l q e = rw e refl
 
-any_flat : (i j : ℕ) (f : ℕ → Bool) → i ≤ j → ((k : ℕ) → i ≤ k → k < j → f k ≡ false) → any_below j f ≡ any_below i f
+pub any_flat : (i j : ℕ) (f : ℕ → Bool) → i ≤ j → ((k : ℕ) → i ≤ k → k < j → f k ≡ false) → any_below j f ≡ any_below i f
 any_flat i zero f le none = let e : i ≡ 0 = omega arith in rw e refl
 any_flat i (suc j) f le none = elim (cases_eq i (suc j)) [
   | inl e ↦ rw e refl
@@ -48,7 +48,7 @@ module _ (g : Settings) (s : State) (n k : ℕ) (first : front g s n ≡ Some k)
   abbrev item : ℕ → Bool
   item p = core_event_is (is_item g.mode) n s.now.trace p
 
-  found : (k < length s.now.trace) × (item k ≡ true) × (count_below k item ≡ gone s n)
+  pub found : (k < length s.now.trace) × (item k ≡ true) × (count_below k item ≡ gone s n)
   found = list_get (length s.now.trace) item (gone s n) k first
 
   -- the persists of the core before the first item of its queue are those that were dispatched
@@ -59,7 +59,7 @@ module _ (g : Settings) (s : State) (n k : ℕ) (first : front g s n ≡ Some k)
       (λ is own. let passes : item p ≡ true = and_from (event_is (is_item g.mode) s.now.trace p) (core_at s.now.trace p == n) (as_item is) own in
       lt-ltb (count_below p item) (gone s n) (omega (arith, count_strict p p k item (omega arith) lt passes, found.2)))
 
-  accepted_past : (p : ℕ) → k ≤ p → is_accepted g s n p ≡ false
+  pub accepted_past : (p : ℕ) → k ≤ p → is_accepted g s n p ≡ false
   accepted_past p le = untold (event_is (is_item g.mode) s.now.trace p) (core_at s.now.trace p == n) (nat_lt (count_below p item) (gone s n)) (event_is is_persist s.now.trace p)
       (le-ltb (count_below p item) (gone s n) (omega (arith, count_mono k p item le, found.2)))
 

@@ -1,5 +1,5 @@
 -- A core's instruction keeps the order of the parts.
-use Rattle.std.proofs.Common.{◌≡◌, ℕ, ◌<◌, Bool, true, false, ◌&&◌, ◌||◌, inl, inr, List, [], ◌∷◌, ◌++◌, length, refl, sym, ap, subst, ◌∙◌, arith}
+use Rattle.std.proofs.Common.{◌≡◌, ℕ, ◌<◌, Bool, true, ◌&&◌, ◌||◌, inl, inr, List, [], ◌∷◌, ◌++◌, length, refl, sym, ap, ◌∙◌, arith}
 use Rattle.std.specs.Prelude.{Some, None, slice_index, ◌==◌}
 use Rattle.std.specs.declared.option.Option.{Option}
 use Rattle.std.proofs.lemmas.Bool.{cases_eq, and_parts}
@@ -10,11 +10,10 @@ use Rattle.strand_events.specs.declared.event.Event.{Event}
 use Rattle.strand_events.specs.Trace.{passes, is_persist, is_store, is_access, core_of, core_at, word_at, event_is}
 use Rattle.strand_events.specs.Order.{held, conflicts}
 use Rattle.strand_events.proofs.Prefix.{core_kept}
-use Rattle.strand_rules.specs.Visible.{Program, event_of, grown, next_plan, retire}
+use Rattle.strand_rules.specs.Visible.{Program, event_of, grown, next_plan}
 use Rattle.strand_cycle.specs.declared.turn.Cause.TheVariants as causes
 use Rattle.strand_cycle.specs.declared.turn.Turn.TheVariants.{Done}
-use Rattle.strand_cycle.specs.Cycle.{State, turn, core_turn, made_turn, event_in, next_event, unmarked, core_after}
-use Rattle.strand_cycle.specs.Parts.{AreApart}
+use Rattle.strand_cycle.specs.Cycle.{State, core_turn, made_turn, event_in, next_event, unmarked, core_after}
 use Rattle.strand_cycle.proofs.Keeping.{within, marks_length}
 use Rattle.strand_cycle.proofs.Next.{core_new}
 use Rattle.strand_cycle.proofs.Setup.{retired_cores}

@@ -12,7 +12,7 @@ use Rattle.strand_cycle.proofs.MarkSets.{held_set, number_set, number_other}
 use Rattle.strand_cycle.proofs.Sets.{with_cases, with_same, with_old}
 use Rattle.strand_cycle.proofs.DispatchStep.{dispatches, not_yet}
 use Rattle.strand_cycle.proofs.Apart.{dispatch_apart}
-use Rattle.strand_cycle.proofs.Good.{Good, IsGood}
+use Rattle.strand_cycle.proofs.Good.{IsGood}
 
 set_from : (b : Bool) (k : ℕ) (marks : List Bool) → k < length marks → (p : ℕ) → held (if b then slice_set marks k true else marks) p ≡ true → ((p ≡ k) × (b ≡ true)) ⊎ (held marks p ≡ true)
 set_from true k marks lt p h = elim (with_cases k (held marks) p (sym (ap (λ f. f p) (held_set marks k lt)) ∙ h)) [ inl e ↦ inl (e, refl) | inr old ↦ inr old ]

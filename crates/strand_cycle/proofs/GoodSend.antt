@@ -1,5 +1,5 @@
 -- A send keeps the order of the parts.
-use Rattle.std.proofs.Common.{◌≡◌, ℕ, ◌<◌, true, false, ◌&&◌, inl, List, [], ◌∷◌, ◌++◌, length, sym, ◌∙◌, arith, length-set}
+use Rattle.std.proofs.Common.{◌≡◌, ℕ, ◌<◌, true, false, ◌&&◌, inl, length, ◌∙◌, arith, length-set}
 use Rattle.std.specs.Prelude.{Some, None, slice_get, slice_index, nat_lt, not, ◌==◌}
 use Rattle.std.specs.declared.option.Option.{Option}
 use Rattle.std.proofs.lemmas.Bool.{and_parts, and_from, eq-eqb, lt-ltb, both_ways, not-true}
@@ -15,7 +15,7 @@ use Rattle.strand_cycle.proofs.MarkSets.{held_unset}
 use Rattle.strand_cycle.proofs.SendStep.{sends}
 use Rattle.strand_cycle.proofs.Apart.{send_apart}
 use Rattle.strand_cycle.proofs.Turns.{then_so}
-use Rattle.strand_cycle.proofs.Good.{Good, IsGood}
+use Rattle.strand_cycle.proofs.Good.{IsGood}
 
 no_lower : (g : Settings) (s : State) (p : ℕ) → epoch_waits g s p ≡ false → (x : ℕ) → Lower g.mode s.now.trace x p → held s.durable x ≡ true
 no_lower g s p none x l =

@@ -1,6 +1,6 @@
 -- A write keeps the order of the parts.
-use Rattle.std.proofs.Common.{◌≡◌, ℕ, ◌<◌, true, false, inl, inr, List, length, sym, ap, ◌∙◌, arith, length-set}
-use Rattle.std.specs.Prelude.{Some, None, slice_get, slice_index, ◌==◌}
+use Rattle.std.proofs.Common.{◌≡◌, ℕ, ◌<◌, true, false, inl, inr, length, ap, ◌∙◌, arith, length-set}
+use Rattle.std.specs.Prelude.{Some, None, slice_get, slice_index}
 use Rattle.std.specs.declared.option.Option.{Option}
 use Rattle.std.proofs.lemmas.Bool.{eq-eqb, both_ways}
 use Rattle.std.proofs.lemmas.Option.{get_or_from_slice_get}
@@ -16,7 +16,7 @@ use Rattle.strand_cycle.proofs.MarkSets.{held_set}
 use Rattle.strand_cycle.proofs.WriteStep.{writes}
 use Rattle.strand_cycle.proofs.Apart.{write_apart}
 use Rattle.strand_cycle.proofs.Turns.{if_done}
-use Rattle.strand_cycle.proofs.Good.{Good, IsGood}
+use Rattle.strand_cycle.proofs.Good.{IsGood}
 
 no_older_request : (s : State) (j p : ℕ) → older_waits s j p ≡ false → (h x : ℕ) → h < j → slice_get s.flight h ≡ Some x → word_at s.now.trace x ≡ word_at s.now.trace p → ⊥
 no_older_request s j p none h x lt at word =

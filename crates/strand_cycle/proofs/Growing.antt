@@ -1,17 +1,17 @@
 -- A core's step keeps the invariant.
-use Rattle.std.proofs.Common.{◌≡◌, ℕ, zero, suc, ◌<◌, ◌≤◌, Bool, true, false, ◌⊎◌, inl, inr, List, [], ◌∷◌, ◌++◌, length, sym, ap, subst, ◌∙◌, arith, length-append}
-use Rattle.std.proofs.lemmas.Bool.{cases_eq, cases_Bool, and_parts, and_from, false≢true}
+use Rattle.std.proofs.Common.{◌≡◌, ℕ, suc, ◌<◌, ◌≤◌, Bool, true, false, ◌⊎◌, inl, inr, List, [], ◌∷◌, ◌++◌, length, sym, ap, subst, ◌∙◌, arith, length-append}
+use Rattle.std.proofs.lemmas.Bool.{cases_eq, cases_Bool, and_parts, and_from}
 use Rattle.strand_inputs.specs.declared.mode.Mode.{Mode}
 use Rattle.strand_events.specs.declared.event.Event.{Event}
 use Rattle.strand_base.specs.Counting.{count_below}
-use Rattle.strand_events.specs.Trace.{is_persist, is_access, is_join, core_of, core_in, core_at, passes, event_is, core_event_is, same_strand}
+use Rattle.strand_events.specs.Trace.{is_persist, is_access, is_join, core_of, core_at, passes, event_is, core_event_is, same_strand}
 use Rattle.strand_events.specs.Order.{Set, directly_before, conflicts, stands_between, core_orders, is_joined}
 use Rattle.strand_cycle.specs.Cycle.{is_item}
 use Rattle.strand_base.proofs.Counting.{get_last, count_agree, count_mono, at_or_below}
 use Rattle.strand_events.proofs.Prefix.{event_is_kept, core_kept, word_kept, core_event_kept, strand_kept, epoch_kept, directly_kept}
 use Rattle.strand_events.proofs.Epochs.{epochs_rise, strand_flip, direct_parts, conflict_word, core_linked, between_parts, between_from}
 use Rattle.strand_events.proofs.Chain.{AllDurableTo, Linked}
-use Rattle.strand_cycle.specs.Parts.{Accepted, Sent, Older, Lower, rank}
+use Rattle.strand_cycle.specs.Parts.{Accepted, Older, Lower, rank}
 use Rattle.strand_cycle.proofs.Keeping.{within as event_within}
 use Rattle.strand_cycle.proofs.Next.{core_new}
 use Rattle.strand_cycle.proofs.Ordered.{Ordered}
@@ -21,13 +21,13 @@ length_grown t e = rw length-append (omega arith)
 
 module _ (mode : Mode) (t : List Event) (e : Event) where
   -- an event of the longer trace is the new one or stands in the old trace
-  new_or_old : (test : Event → Bool) (i : ℕ) → event_is test (t ++ e ∷ []) i ≡ true → (i ≡ length t) ⊎ (i < length t)
+  pub new_or_old : (test : Event → Bool) (i : ℕ) → event_is test (t ++ e ∷ []) i ≡ true → (i ≡ length t) ⊎ (i < length t)
   new_or_old test i h = let within = event_within test (t ++ e ∷ []) i h in elim (cases_eq i (length t)) [ inl same ↦ inl same | inr ne ↦ inr (at_or_below (omega (arith, within, length_grown t e)) ne) ]
 
   is_new : (test : Event → Bool) → event_is test (t ++ e ∷ []) (length t) ≡ true → test e ≡ true
   is_new test h = ap (passes test) (sym (get_last t e)) ∙ h
 
-  was : (test : Event → Bool) (i : ℕ) → i < length t → event_is test (t ++ e ∷ []) i ≡ true → event_is test t i ≡ true
+  pub was : (test : Event → Bool) (i : ℕ) → i < length t → event_is test (t ++ e ∷ []) i ≡ true → event_is test t i ≡ true
   was test i lt h = sym (event_is_kept t e test i lt) ∙ h
 
   older_was : (p q : ℕ) → q < length t → Older mode (t ++ e ∷ []) p q → Older mode t p q
@@ -52,10 +52,10 @@ module _ (mode : Mode) (t : List Event) (e : Event) where
     }
   ]
 
-  rank_kept : (p : ℕ) → p < length t → rank mode (t ++ e ∷ []) p ≡ rank mode t p
+  pub rank_kept : (p : ℕ) → p < length t → rank mode (t ++ e ∷ []) p ≡ rank mode t p
   rank_kept p lt = ap (λ c. count_below p (core_event_is (is_item mode) c (t ++ e ∷ []))) (core_kept t e p lt) ∙ count_agree p (core_event_is (is_item mode) (core_at t p) (t ++ e ∷ [])) (core_event_is (is_item mode) (core_at t p) t) (λ k below. core_event_kept t e (is_item mode) (core_at t p) k (omega arith))
 
-  items_kept : (core : ℕ) → count_below (length t) (core_event_is (is_item mode) core (t ++ e ∷ [])) ≡ count_below (length t) (core_event_is (is_item mode) core t)
+  pub items_kept : (core : ℕ) → count_below (length t) (core_event_is (is_item mode) core (t ++ e ∷ [])) ≡ count_below (length t) (core_event_is (is_item mode) core t)
   items_kept core = count_agree (length t) (core_event_is (is_item mode) core (t ++ e ∷ [])) (core_event_is (is_item mode) core t) (λ k below. core_event_kept t e (is_item mode) core k below)
 
   linked_still : (durable : Set) (a b : ℕ) → a < length t → b < length t → Linked mode t durable a b → Linked mode (t ++ e ∷ []) durable a b

@@ -1,28 +1,23 @@
 -- A step keeps what a machine keeps.
 use Rattle.std.proofs.Common.{◌≡◌, ℕ, zero, suc, ◌+◌, ◌^◌, ◌<◌, ◌≤◌, Bool, true, false, List, [], ◌∷◌, ◌++◌, length, refl, sym, ap, ◌∙◌, arith, inl, inr, length-append, length-set}
 use Rattle.std.specs.Prelude.{nat_lt, Some, None, slice_set, slice_index, remove, if◌then◌else◌}
-use Rattle.std.specs.List.{AllByRecursion}
 use Rattle.std.specs.declared.option.Option.{Option}
-use Rattle.std.proofs.lemmas.Bool.{cases_Bool, cases_eq, leb-true, ltb-true, ltb-false, true≢false}
+use Rattle.std.proofs.lemmas.Bool.{cases_Bool, cases_eq, ltb-true, ltb-false, true≢false}
 use Rattle.std.proofs.lemmas.List.Edits.{length-remove, get_or-remove_below, get_or-remove_above}
-use Rattle.strand_exec.specs.Arith.{merged}
-use Rattle.strand_exec.specs.Core.{Core, Extents}
-use Rattle.strand_exec.specs.Memory.{Memory, word_in, with_word}
+use Rattle.strand_exec.specs.Core.{Core}
+use Rattle.strand_exec.specs.Memory.{Memory, with_word}
 use Rattle.strand_exec.specs.Plan.{IsWord}
 use Rattle.strand_exec.specs.Plan as plan
 use Rattle.strand_exec.specs.declared.planned.Plan.{Plan}
 use Rattle.strand_exec.specs.declared.planned.Plan.TheVariants.{Plain, Load, Store, Barrier, NewStrand, Join, Out, Halt, Trap}
 use Rattle.strand_exec.proofs.StoresData.{stores_data}
 use Rattle.strand_events.specs.declared.event.Event.{Event}
-use Rattle.strand_events.specs.declared.event.Event.TheVariants as events
 use Rattle.strand_events.specs.Trace.{is_persist, event_is}
 use Rattle.strand_events.specs.Order.{held}
-use Rattle.strand_events.specs.Fits.{is_persistent}
 use Rattle.strand_events.proofs.Prefix.{event_is_kept}
 use Rattle.strand_rules.specs.Visible.{event_of, memory_after, grown}
 use Rattle.strand_cycle.specs.Cycle.{State, unmarked, gone, send_after, write_after}
 use Rattle.strand_cycle.specs.Machine.{Machine, made_to}
-use Rattle.strand_rules.specs.Kept.{IsPlaced}
 use Rattle.strand_cycle.specs.Kept.{IsKept}
 use Rattle.strand_cycle.proofs.Placing.{event_placed}
 use Rattle.strand_cycle.proofs.Marked.{held_unmarked, held_within, held_set, held_other}

@@ -29,4 +29,12 @@ pub mod BankSteps
 pub mod Placing
 pub mod Placed
 pub mod PartsKept
+pub mod Rings
+pub mod Begun
+pub mod RingSteps
+pub mod RingItem
+pub mod BegunItem
+pub mod Fits
+pub mod OneStrand
 pub mod Reached
+pub mod Waiting

@@ -1,13 +1,13 @@
 -- What every run keeps of its dispatched persists, part by part.
-use Rattle.std.proofs.Common.{◌≡◌, ℕ, ◌<◌, true, false, ◌&&◌, ◌⊎◌, inl, inr, refl, sym, ap, ◌∙◌, arith}
-use Rattle.std.specs.Prelude.{nat_lt, slice_index, ◌==◌}
-use Rattle.std.proofs.lemmas.Bool.{and_parts, and_from, eq-eqb, ltb-true, lt-ltb}
+use Rattle.std.proofs.Common.{◌≡◌, ℕ, ◌<◌, true, inl, inr}
+use Rattle.std.specs.Prelude.{nat_lt}
+use Rattle.std.proofs.lemmas.Bool.{and_parts, and_from, ltb-true, lt-ltb}
 use Rattle.strand_inputs.specs.Settings.{Settings}
 use Rattle.strand_events.specs.Trace.{is_persist, core_at, event_is, core_event_is}
 use Rattle.strand_events.specs.Order.{held}
 use Rattle.strand_events.proofs.Chain.{settled_before}
 use Rattle.strand_cycle.specs.Cycle.{State, is_item, gone, is_dispatched, is_accepted}
-use Rattle.strand_cycle.specs.Parts.{Accepted, rank, AreParts, AreInOrder, AreSettled}
+use Rattle.strand_cycle.specs.Parts.{rank, AreParts, AreInOrder, AreSettled}
 use Rattle.strand_cycle.proofs.Ranks.{persist_ranks}
 use Rattle.strand_cycle.proofs.Good.{IsGood}
 

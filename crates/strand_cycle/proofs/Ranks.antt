@@ -1,5 +1,5 @@
 -- A persist's rank among the items of its core.
-use Rattle.std.proofs.Common.{◌≡◌, ℕ, ◌<◌, ◌≤◌, Bool, true, inl, inr, List, refl, arith}
+use Rattle.std.proofs.Common.{◌≡◌, ℕ, ◌≤◌, Bool, true, inl, inr, List, refl, arith}
 use Rattle.std.specs.Prelude.{◌==◌}
 use Rattle.std.proofs.lemmas.Bool.{cases_order, and_from, eq-eqb}
 use Rattle.strand_inputs.specs.declared.mode.Mode.{Mode}

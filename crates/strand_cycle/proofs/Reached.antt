@@ -20,11 +20,15 @@ use Rattle.strand_cycle.specs.Machine.{Machine, Steps, StandsOn, stepped}
 use Rattle.strand_cycle.proofs.Keeping.{IsStart}
 use Rattle.strand_cycle.proofs.Good.{IsGood, start_good}
 use Rattle.strand_cycle.proofs.GoodRun.{run_good, good_closed}
+use Rattle.strand_cycle.proofs.Fits.{IsFit, start_fit, run_fit}
 use Rattle.strand_cycle.proofs.Placed.{ArePlaced, run_placed}
 use Rattle.strand_cycle.proofs.BankSteps.{core_stand, steps_stand}
 
 pub reached_good : (g : Settings) (p : Program) (s : State) → IsReached g p s → IsGood g s
 reached_good g p s (cores, memory, steps, is) = subst (IsGood g) (sym is) (run_good g p (start_at cores memory) steps (start_good g cores memory))
+
+pub reached_fit : (g : Settings) (p : Program) (s : State) → IsReached g p s → IsFit g s
+reached_fit g p s (cores, memory, steps, is) = subst (IsFit g) (sym is) (run_fit g p (start_at cores memory) steps (start_good g cores memory) (start_fit g cores memory))
 
 reached_placed : (g : Settings) (p : Program) (s : State) → p.sizes.volatile ≤ 1048576 → IsReached g p s → ArePlaced p s.now.trace
 reached_placed g p s small (cores, memory, steps, is) = subst (λ (s : State). ArePlaced p s.now.trace) (sym is) (run_placed p small g (start_at cores memory) steps tt)

@@ -1,12 +1,12 @@
 // What the rules of a core's instruction find in the trace.
-ghost use Rattle.std.specs.Prelude.{◌≡◌, ◌<◌, ◌≤◌, ◌^◌, ◌++◌, [], ◌∷◌, length};
+ghost use Rattle.std.specs.Prelude.{◌≡◌, ◌<◌, ◌≤◌, ◌+◌, ◌^◌, ◌++◌, ◌&&◌, [], ◌∷◌, ℕ, length};
 ghost use Rattle.strand_events.specs.Order.{held};
-ghost use Rattle.strand_events.specs.Trace.{core_of};
+ghost use Rattle.strand_events.specs.Trace.{core_at, core_of};
 ghost use Rattle.strand_cycle.specs.Cycle.{some_wait, must_wait, items};
-ghost use Rattle.strand_cycle.specs.Looking.{next_strand, opposes, holds_up};
+ghost use Rattle.strand_cycle.specs.Looking.{next_strand, opposes};
 
 use crate::event_tests::{
-    core_of, is_access, is_core_item, is_core_persist, is_new_strand, is_store, word_of,
+    core_of, is_access, is_core_item, is_core_persist, is_new_strand, is_persist, is_store, word_of,
 };
 use strand_events::{Event, Trace};
 use strand_inputs::Mode;
@@ -71,33 +71,51 @@ fn opposes(trace: &Trace, mode: Mode, event: Event, strand: u32, a: usize) -> bo
         && !(core_of(earlier) == core_of(event) && trace.strand_of(mode, a) == strand)
 }
 
-// Whether access `a` holds the next event up.
+// Notes event a where it is a persist that isn't durable, by its core.
+fn note_wait(events: &[Event], durable: &[bool], a: usize, waiting: &mut [bool])
+    requires a { a < length events.now }
+    requires marks { length durable.now ≡ length events.now }
+    requires core { core_at events.now a < length waiting.old }
+    ensures length { length waiting.new ≡ length waiting.old }
+    ensures marks { (n : ℕ) → n < length waiting.old → held waiting.old n ≡ some_wait events.now (held durable.now) n a
+        → held waiting.new n ≡ some_wait events.now (held durable.now) n (a + 1) }
+{
+    if is_persist(events[a]) && !durable[a] {
+        waiting[core_of(events[a]) as usize] = true;
+    }
+}
+
+// Whether access `a` holds the next event up, where each core's mark says whether a persist of it up
+// to there isn't durable.
 fn holds_up(
     trace: &Trace,
     mode: Mode,
-    durable: &[bool],
+    waiting: &[bool],
     event: Event,
     strand: u32,
     a: usize,
 ) -> bool
     requires a { a < length trace.now.events }
-    requires marks { length durable.now ≡ length trace.now.events }
+    requires core { core_at trace.now.events a < length waiting.now }
     requires strand { strand ≡ next_strand mode trace.now.events (core_of event) }
-    ensures { result ≡ holds_up mode trace.now.events (held durable.now) event a }
+    ensures { result ≡ (opposes mode trace.now.events event a && held waiting.now (core_at trace.now.events a)) }
 {
-    opposes(trace, mode, event, strand, a)
-        && some_wait(trace.events(), durable, core_of(trace.events()[a]), a + 1)
+    opposes(trace, mode, event, strand, a) && waiting[core_of(trace.events()[a]) as usize]
 }
 
-// Whether an access of another strand holds the next event up.
+// Whether an access of another strand holds the next event up. It goes over the trace once, and keeps
+// for each core whether a persist up to there isn't durable.
 pub(crate) fn must_wait(trace: &Trace, mode: Mode, durable: &[bool], event: Event) -> bool
     requires { length durable.now ≡ length trace.now.events }
     ensures { result ≡ must_wait mode (trace.now.events ++ event ∷ []) (held durable.now) (length trace.now.events) }
 {
-    let strand = next_strand(trace.events(), mode, core_of(event));
+    let events = trace.events();
+    let strand = next_strand(events, mode, core_of(event));
+    let mut waiting = [false; 8];
     let mut found = false;
-    for a in 0..trace.events().len() {
-        if holds_up(trace, mode, durable, event, strand, a) {
+    for a in 0..events.len() {
+        note_wait(events, durable, a, &mut waiting);
+        if holds_up(trace, mode, &waiting, event, strand, a) {
             found = true;
         }
     }

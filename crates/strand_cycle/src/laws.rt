@@ -9,7 +9,7 @@ ghost use Rattle.strand_rules.specs.Visible.{Program, visible};
 ghost use Rattle.strand_cycle.specs.declared.turn.Turn.{Turn};
 ghost use Rattle.strand_cycle.specs.Cycle.{State, run, start_at, durable_set, IsReached};
 ghost use Rattle.strand_cycle.specs.Machine.{Machine, Steps, StandsOn};
-ghost use Rattle.strand_cycle.specs.Parts.{AreInOrder, AreParts, AreSettled};
+ghost use Rattle.strand_cycle.specs.Parts.{AreInOrder, AreParts, AreSettled, FitBuffers};
 
 /// The law over all settings, every program, every start and every list of steps: the cores, the
 /// memory and the trace are those of the visible run over the cores that retired (docs/cycle.md).
@@ -35,9 +35,11 @@ pub fn durable_sets_are_allowed()
 
 /// What holds of every state that a run reaches (docs/cycle.md): the buffered persists, those in flight
 /// and the durable ones are apart, and together the dispatched ones; what is before an access is
-/// durable or stays in its strand; and persists are sent by epochs and written by their order.
+/// durable or stays in its strand; persists are sent by epochs and written by their order; and buffers
+/// hold one strand each, rings and requests no more than the settings say.
 pub fn parts_are_kept()
     ensures parts { (g : Settings) (p : Program) (s : State) → IsReached g p s → AreParts g s }
     ensures settled { (g : Settings) (p : Program) (s : State) → IsReached g p s → AreSettled g.mode s.now.trace (durable_set s) }
     ensures in_order { (g : Settings) (p : Program) (s : State) → IsReached g p s → AreInOrder g.mode s.now.trace s.flight (durable_set s) }
+    ensures buffers { (g : Settings) (p : Program) (s : State) → IsReached g p s → FitBuffers g s }
 {}

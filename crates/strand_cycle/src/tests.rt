@@ -97,7 +97,8 @@ fn bank_of(alloc: Global, failing: u64) -> Result<ModuleBank, Fail> {
     Ok(ModuleBank::single(module))
 }
 
-// Runs a schedule. Writes the turns that aren't Done, the persists' marks and how many retired.
+// Runs a schedule. Writes the turns that aren't Done, the persists' marks, how many retired and the
+// persistent words that the cores see.
 fn outcome(
     alloc: Global,
     config: Config,
@@ -117,7 +118,9 @@ fn outcome(
     for durable in machine.durable() {
         text.push(if *durable { '1' } else { '0' })?;
     }
-    write!(text, ", {} retired", machine.retired().len())?;
+    let retired = machine.retired().len();
+    let seen = machine.flatten()?;
+    write!(text, ", {retired} retired, {:?}", seen.persistent)?;
     Ok(text)
 }
 
@@ -148,12 +151,15 @@ fn strands_drain_apart(rt: HostRuntime) -> Result<(), Fail> {
         &image,
         0,
         &[
-            ("c 0 * 7\nd 0 * 5\ns 0 1 0\nw 0\n", "001, 7 retired"),
+            (
+                "c 0 * 7\nd 0 * 5\ns 0 1 0\nw 0\n",
+                "001, 7 retired, [1, 1, 1]",
+            ),
             (
                 "c 0 * 7\nd 0 * 5\ns 0 0 0\ns 0 0 0\n",
-                "14 Bubble(NoEntry), 000, 7 retired",
+                "14 Bubble(NoEntry), 000, 7 retired, [1, 1, 1]",
             ),
-            ("c 0 * 8\n", "8 Bubble(Join), 000, 7 retired"),
+            ("c 0 * 8\n", "8 Bubble(Join), 000, 7 retired, [1, 1, 1]"),
         ],
     )?;
     rows(
@@ -164,7 +170,7 @@ fn strands_drain_apart(rt: HostRuntime) -> Result<(), Fail> {
         1,
         &[(
             "c 0 * 7\nd 0 * 5\ns 0 1 0\nw 0\n",
-            "14 Fault { module: 0 }, 000, 7 retired",
+            "14 Fault { module: 0 }, 000, 7 retired, [1, 1, 1]",
         )],
     )?;
     rows(
@@ -178,7 +184,7 @@ fn strands_drain_apart(rt: HostRuntime) -> Result<(), Fail> {
         0,
         &[(
             "c 0 * 7\nd 0 * 5\ns 0 1 0\ns 0 0 0\n",
-            "14 Bubble(FlightFull), 000, 7 retired",
+            "14 Bubble(FlightFull), 000, 7 retired, [1, 1, 1]",
         )],
     )?;
     rows(
@@ -192,7 +198,7 @@ fn strands_drain_apart(rt: HostRuntime) -> Result<(), Fail> {
         0,
         &[(
             "c 0 * 7\nd 0 * 4\ns 0 0 0\nw 0\ns 0 0 0\nw 0\nd 0 * 2\n",
-            "11 Bubble(NotEmpty), 110, 7 retired",
+            "11 Bubble(NotEmpty), 110, 7 retired, [1, 1, 1]",
         )],
     )?;
     rows(
@@ -206,7 +212,7 @@ fn strands_drain_apart(rt: HostRuntime) -> Result<(), Fail> {
         0,
         &[(
             "c 0 * 7\nd 0 * 3\ns 0 0 0\ns 0 0 0\n",
-            "12 Bubble(NoEntry), 000, 7 retired",
+            "12 Bubble(NoEntry), 000, 7 retired, [1, 1, 1]",
         )],
     )
 }
@@ -222,7 +228,7 @@ fn stores_of_one_word_keep_their_order(rt: HostRuntime) -> Result<(), Fail> {
         0,
         &[(
             "c 0 * 6\nd 0 * 3\ns 0 0 0\ns 0 0 0\nw 1\n",
-            "12 Bubble(OlderWaits), 000, 6 retired",
+            "12 Bubble(OlderWaits), 000, 6 retired, [1, 0, 0]",
         )],
     )?;
     rows(
@@ -234,7 +240,7 @@ fn stores_of_one_word_keep_their_order(rt: HostRuntime) -> Result<(), Fail> {
         },
         &image,
         0,
-        &[("c 0 * 5\n", "5 Bubble(Queue), 0, 4 retired")],
+        &[("c 0 * 5\n", "5 Bubble(Queue), 0, 4 retired, [1, 0, 0]")],
     )?;
     rows(
         &rt,
@@ -242,7 +248,10 @@ fn stores_of_one_word_keep_their_order(rt: HostRuntime) -> Result<(), Fail> {
         Config { ring: 2, ..MACHINE },
         &image,
         0,
-        &[("c 0 * 6\nd 0 * 3\n", "9 Bubble(NoRoom), 000, 6 retired")],
+        &[(
+            "c 0 * 6\nd 0 * 3\n",
+            "9 Bubble(NoRoom), 000, 6 retired, [1, 0, 0]",
+        )],
     )
 }
 
@@ -257,7 +266,7 @@ fn cores_wait_for_each_other(rt: HostRuntime) -> Result<(), Fail> {
         0,
         &[(
             "c 0 * 6\nc 1 * 3\nd 0 * 2\ns 0 0 0\nw 0\nc 1 * 3\n",
-            "9 Bubble(Conflict), 10, 11 retired",
+            "9 Bubble(Conflict), 10, 11 retired, [1, 1, 0]",
         )],
     )?;
     let halves = image_of(rt.alloc(), &[0, 4], HALVES)?;
@@ -269,7 +278,7 @@ fn cores_wait_for_each_other(rt: HostRuntime) -> Result<(), Fail> {
         0,
         &[(
             "c 0 * 3\nc 1 * 3\nd 0\ns 0 0 0\nw 0\nc 1\n",
-            "6 Bubble(Conflict), 10, 6 retired",
+            "6 Bubble(Conflict), 10, 6 retired, [8589934593, 0, 0]",
         )],
     )
 }

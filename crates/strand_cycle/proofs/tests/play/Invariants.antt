@@ -1,4 +1,4 @@
-use Rattle.std.proofs.Common.{◌≡◌, ◌+◌, ◌≤◌, length}
+use Rattle.std.proofs.Common.{◌≡◌, ◌+◌, ◌≤◌}
 use Rattle.strand_cycle.proofs.tests.play.Given as goal
 
 abbrev pub invariant-loop-k : goal.invariant-loop-k

@@ -1,4 +1,4 @@
-use Rattle.std.proofs.Common.{sym, subst}
+use Rattle.std.proofs.Common.{subst}
 use Rattle.strand_events.specs.Order.{IsDownwardClosed, HoldsJoined}
 use Rattle.strand_cycle.specs.Cycle.{durable_set}
 use Rattle.strand_cycle.specs.Machine.{Machine}
