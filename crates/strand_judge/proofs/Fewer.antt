@@ -1,7 +1,7 @@
 -- Each round leaves fewer events without a mark.
-use Rattle.std.proofs.Common.{◌≡◌, ℕ, zero, suc, ◌<◌, ◌≤◌, true, false, Bool, inl, inr, ap, sym, ◌∙◌, arith}
-use Rattle.std.specs.Prelude.{not, slice_set}
-use Rattle.std.proofs.lemmas.Bool.{cases_eq, cases_Bool, both_ways, not-true, true_from_ne_false, false_from_ne_true}
+use Rattle.std.proofs.Common.{◌≡◌, ℕ, zero, suc, ◌<◌, ◌≤◌, true, false, inl, inr, ap, sym, ◌∙◌, arith}
+use Rattle.std.specs.Prelude.{not}
+use Rattle.std.proofs.lemmas.Bool.{cases_eq, cases_Bool, both_ways, not-true, false_from_ne_true}
 use Rattle.strand_base.specs.Counting.{count_below}
 use Rattle.strand_base.proofs.Counting.{count_yes, count_no, at_or_below}
 use Rattle.strand_events.specs.Order.{Set}

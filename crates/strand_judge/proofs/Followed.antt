@@ -1,5 +1,5 @@
 -- One pass backwards over the edges closes a set of events.
-use Rattle.std.proofs.Common.{◌≡◌, ℕ, zero, suc, ◌<◌, ◌≤◌, Bool, true, false, ◌⊎◌, inl, inr, List, [], ◌∷◌, Some, length, refl, sym, ap, ◌∙◌, arith, subst, cond}
+use Rattle.std.proofs.Common.{◌≡◌, ℕ, suc, ◌<◌, ◌≤◌, Bool, true, false, ◌⊎◌, inl, inr, List, [], ◌∷◌, Some, length, refl, sym, ap, ◌∙◌, arith, subst, cond}
 use Rattle.std.specs.Prelude.{slice_get}
 use Rattle.std.proofs.lemmas.Bool.{cases_eq, cases_lt, cases_Bool, both_ways}
 use Rattle.std.proofs.lemmas.List.{get_or_past, get_or-set_other, get_or-set_same, length-set}
@@ -9,7 +9,7 @@ use Rattle.strand_inputs.specs.declared.mode.Mode.{Mode}
 use Rattle.strand_events.specs.declared.event.Event.{Event}
 use Rattle.strand_events.specs.Order.{Set, held}
 use Rattle.strand_order.specs.declared.edge.Edge.{Edge}
-use Rattle.strand_order.specs.Graph.{is_edge, LeadsTo}
+use Rattle.strand_order.specs.Graph.{is_edge}
 use Rattle.strand_order.specs.Edges.{edges_of, edge_from}
 use Rattle.strand_order.proofs.Listed.{listed_edge, edge_listed, listed_in_order}
 use Rattle.strand_order.proofs.GraphSound.{edge_less}

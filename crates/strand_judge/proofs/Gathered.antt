@@ -1,5 +1,5 @@
 -- The set that the judge gathers: all that every settled set has to hold.
-use Rattle.std.proofs.Common.{◌≡◌, ℕ, true, false, ◌⊎◌, inl, inr, Bool, List, [], ◌∷◌, length, refl, sym, ap, ◌∙◌, subst}
+use Rattle.std.proofs.Common.{◌≡◌, ℕ, true, inl, inr, Bool, List, [], ◌∷◌, length, refl, sym, ap, ◌∙◌, subst}
 use Rattle.std.specs.Prelude.{slice_set, ◌<◌}
 use Rattle.strand_inputs.specs.declared.mode.Mode.{Mode}
 use Rattle.strand_events.specs.declared.event.Event.{Event}
@@ -77,11 +77,11 @@ module _ (mode : Mode) (t : List Event) (crash : Crash) where
   pub gathered_more : (marks : List Bool) (p : ℕ) (new : Set) → p < length marks → IsGathered mode t crash (held marks) → Lacks t crash (held marks) p → Closes mode t (held (slice_set marks p true)) new → IsGathered mode t crash new
   gathered_more marks p new lt g l c = gathered_close (held (slice_set marks p true)) new (λ k h. still_marked marks p k lt (g.joined k h)) (λ k h. elim (marked_is marks p k h) [
     | inl e ↦ record {
-        root = p;
-        persist = l.offers.persist;
-        needed = λ other settled. forced mode t crash (held marks) other (down_closed (held marks) g) (gathered_within (held marks) g other settled) settled (word_at t p) l.has l.differs p l.offers l.first;
-        path = inl e;
-      }
+      root = p;
+      persist = l.offers.persist;
+      needed = λ other settled. forced mode t crash (held marks) other (down_closed (held marks) g) (gathered_within (held marks) g other settled) settled (word_at t p) l.has l.differs p l.offers l.first;
+      path = inl e;
+    }
     | inr was ↦ g.rooted k was
   ]) c
 

@@ -1,11 +1,11 @@
 -- What a list of values tells of the persists that a set lacks.
-use Rattle.std.proofs.Common.{◌≡◌, ℕ, ◌<◌, true, false, ◌⊎◌, inl, inr, List, length, refl, sym, ap, ◌∙◌, arith, subst}
-use Rattle.std.specs.Prelude.{slice_index, Bool, ◌&&◌, not, ◌==◌, nat_lt}
+use Rattle.std.proofs.Common.{◌≡◌, ℕ, ◌<◌, true, false, inl, inr, List, length, refl, sym, ap, ◌∙◌, arith, subst}
+use Rattle.std.specs.Prelude.{◌&&◌, not, ◌==◌, nat_lt}
 use Rattle.std.proofs.lemmas.Bool.{cases_eq, and_parts, and_from, eqb-true, eq-eqb, ne_eqb, ltb-true, lt-ltb, not-true, both_ways, true_from_ne_false}
 use Rattle.strand_events.specs.declared.event.Event.{Event}
 use Rattle.strand_events.specs.Trace.{is_persist, word_at, value_at, event_is}
 use Rattle.strand_events.specs.Order.{Set, image}
-use Rattle.strand_judge.specs.Judged.{Agrees, Offers}
+use Rattle.strand_judge.specs.Judged.{Offers}
 use Rattle.strand_judge.specs.Words.{address, place_of, crash_of, LieIn}
 use Rattle.strand_judge.specs.Forcing.{at_word, IsImage, is_lacking, LacksNone, LacksFirst}
 use Rattle.strand_judge.specs.Lacking.{Lacks, LacksNothing}

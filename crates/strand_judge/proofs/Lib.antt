@@ -5,4 +5,5 @@ pub mod Numbered
 pub mod Lacked
 pub mod Gathered
 pub mod Fewer
+pub mod Pictured
 pub mod Ruled

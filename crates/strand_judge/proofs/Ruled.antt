@@ -1,17 +1,15 @@
 -- Where a list of values differs from what was found, the set's image differs from the crash image.
-use Rattle.std.proofs.Common.{◌≡◌, ℕ, ◌<◌, true, List, length, refl, sym, ap, ◌∙◌, arith}
-use Rattle.std.specs.Prelude.{slice_index, ◌&&◌, ◌==◌, nat_lt}
+use Rattle.std.proofs.Common.{◌≡◌, ℕ, ◌<◌, true, List, length, sym, ap, ◌∙◌, arith}
+use Rattle.std.specs.Prelude.{slice_index, ◌==◌, nat_lt}
 use Rattle.std.proofs.lemmas.Bool.{and_from, eq-eqb, lt-ltb}
 use Rattle.strand_events.specs.declared.event.Event.{Event}
 use Rattle.strand_events.specs.Order.{Set}
 use Rattle.strand_judge.specs.Judged.{Agrees}
 use Rattle.strand_judge.specs.Words.{address, place_of, crash_of}
-use Rattle.strand_judge.specs.Forcing.{at_word, IsImage, DifferFirst, AreSame}
+use Rattle.strand_judge.specs.Forcing.{IsImage, DifferFirst, AreSame}
 use Rattle.strand_judge.specs.Verdicts.{IsFirstDifference}
+use Rattle.strand_judge.proofs.Pictured.{place_again}
 use Rattle.strand_judge.proofs.Lacked.{has_parts, value_is}
-
-place_again : (k : ℕ) → place_of (address k) ≡ k
-place_again k = omega arith
 
 module _ (t : List Event) (all : Set) (first found values : List ℕ) (same : length first ≡ length found) (i : IsImage t all first values) where
   agrees_at : (word : ℕ) → (crash_of first found).has word ≡ true → slice_index values (place_of word) ≡ slice_index found (place_of word) → Agrees t (crash_of first found) all word

@@ -2,7 +2,7 @@
 use Rattle.std.specs.Prelude.{◌≡◌, ℕ, ◌<◌, Bool, true, false, ◌&&◌, not, ◌==◌, List, length, slice_index}
 use Rattle.strand_events.specs.declared.event.Event.{Event}
 use Rattle.strand_events.specs.Trace.{is_persist, word_at, value_at, event_is}
-use Rattle.strand_events.specs.Order.{Set, image, image_below}
+use Rattle.strand_events.specs.Order.{Set, image_below}
 use Rattle.strand_judge.specs.Words.{address, place_of}
 
 -- the value of a word in a list by places

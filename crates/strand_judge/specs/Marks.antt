@@ -1,5 +1,5 @@
 -- Marks on events, as a set.
-use Rattle.std.specs.Prelude.{◌≡◌, ℕ, ◌<◌, Bool, true, List, length}
+use Rattle.std.specs.Prelude.{◌≡◌, ℕ, Bool, true, List, length}
 use Rattle.strand_events.specs.Order.{Set, held}
 
 -- there are so many marks, and those of the set are the marked ones

@@ -1,13 +1,28 @@
 // The image of the marked persists, and where it differs from what was found.
-ghost use Rattle.std.specs.Prelude.{◌≡◌, ◌<◌, length, IfOk, MatchOption};
+ghost use Rattle.std.specs.Prelude.{◌≡◌, ◌<◌, ◌&&◌, length, slice_set, if◌then◌else◌, IfOk, MatchOption};
+ghost use Rattle.strand_events.specs.Trace.{event_is, is_persist, word_at, value_at};
 ghost use Rattle.strand_events.specs.Order.{held};
-ghost use Rattle.strand_judge.specs.Words.{LieIn};
+ghost use Rattle.strand_judge.specs.Words.{LieIn, place_of};
 ghost use Rattle.strand_judge.specs.Forcing.{IsImage, is_lacking, LacksNone, LacksFirst, DifferFirst, AreSame};
 
 use crate::event_tests::{is_persist, place_of, value_of, word_of};
 use std::alloc::Global;
 use strand_base::OutOfMemory;
 use strand_events::Event;
+
+// Puts the value of event k into its word, where it is a marked persist.
+fn put_value(image: &mut Vec<u64>, events: &[Event], marks: &[bool], k: usize)
+    requires k { k < length events.now }
+    requires marks { length marks.now ≡ length events.now }
+    requires within { LieIn events.now (length image.old.items) }
+    ensures { image.new.items ≡ (if event_is is_persist events.now k && held marks.now k
+        then slice_set image.old.items (place_of (word_at events.now k)) (value_at events.now k) else image.old.items) }
+{
+    let event = events[k];
+    if is_persist(event) && marks[k] {
+        image[place_of(word_of(event))] = value_of(event);
+    }
+}
 
 /// The values of the words in the image of the marked persists, where `first` are their initial values.
 pub(crate) fn image_of(
@@ -22,9 +37,7 @@ pub(crate) fn image_of(
 {
     let mut image = first.to_vec(alloc)?;
     for k in 0..events.len() {
-        if is_persist(events[k]) && marks[k] {
-            image[place_of(word_of(events[k]))] = value_of(events[k]);
-        }
+        put_value(&mut image, events, marks, k);
     }
     Ok(image)
 }

@@ -12,3 +12,6 @@ mod verdict;
 pub use judging::judge;
 pub use laws::least_sets_are_judged;
 pub use verdict::Verdict;
+
+#[cfg(test)]
+mod tests;

@@ -1,5 +1,4 @@
 use Rattle.std.proofs.Common.{◌≡◌, ◌-◌, ◌∙◌, suc, length, ap, sym, subst, arith}
-use Rattle.std.specs.Prelude.{slice_get}
 use Rattle.strand_events.specs.Order.{held}
 use Rattle.strand_order.specs.Edges.{edges_of}
 use Rattle.strand_judge.proofs.Followed.{closed_none, edge_at, edge_within, closed_step, closed_all, followed_long, ClosedFrom}

@@ -1,0 +1,4 @@
+pub mod Ends
+pub mod Edged
+pub mod Along
+pub mod Longest
