@@ -1,5 +1,6 @@
 // The same work as `strand run` for one core under strict order, in plain Rust: what `bench/table` compares with.
-// It reads the image and the schedule, steps the core, keeps the trace and prints the report. Nothing of it is proved.
+// It reads the image and the schedule, steps the core, keeps the trace with its numbers and prints the report. Nothing
+// of it is proved.
 use std::env;
 use std::fmt::Write;
 use std::fs;
@@ -33,6 +34,16 @@ enum Life {
     Trapped,
 }
 
+// What the core has made before an event, by which strands and epochs are numbered.
+#[allow(dead_code)]
+#[derive(Clone, Copy)]
+struct Marks {
+    accesses: u32,
+    strands: u32,
+    borders: u32,
+    strand_borders: u32,
+}
+
 struct Machine {
     code: Vec<u32>,
     volatile: Vec<u64>,
@@ -41,6 +52,8 @@ struct Machine {
     pc: u64,
     life: Life,
     trace: Vec<Event>,
+    marks: Vec<Marks>,
+    latest: Marks,
     persists: Vec<u32>,
     retired: Vec<u32>,
     durable: usize,
@@ -72,6 +85,23 @@ impl Machine {
         } else {
             &mut self.volatile[((word - VOLATILE) / 8) as usize]
         }
+    }
+
+    fn push(&mut self, event: Event) {
+        self.marks.push(self.latest);
+        match event {
+            Event::Load { .. } | Event::Store { .. } => self.latest.accesses += 1,
+            Event::Barrier { .. } | Event::Join { .. } => {
+                self.latest.borders += 1;
+                self.latest.strand_borders += 1;
+            }
+            Event::NewStrand { .. } => {
+                self.latest.strands += 1;
+                self.latest.strand_borders = 0;
+            }
+            Event::Out { .. } => {}
+        }
+        self.trace.push(event);
     }
 
     fn set(&mut self, rd: usize, value: u64) {
@@ -129,7 +159,7 @@ impl Machine {
                     return true;
                 };
                 let value = *self.cell(word) >> (8 * (at % 8));
-                self.trace.push(Event::Load { core: 0, word });
+                self.push(Event::Load { core: 0, word });
                 self.set(rd, match f3 {
                     0 => value as u8 as i8 as i64 as u64,
                     1 => value as u16 as i16 as i64 as u64,
@@ -155,7 +185,7 @@ impl Machine {
                 if persist {
                     self.persists.push(self.trace.len() as u32);
                 }
-                self.trace.push(Event::Store { core: 0, word, value, persist });
+                self.push(Event::Store { core: 0, word, value, persist });
             }
             0x13 => self.set(rd, match f3 {
                 0 => a.wrapping_add(imm),
@@ -195,17 +225,17 @@ impl Machine {
             }),
             0x0f => {}
             0x0b => match f3 {
-                0 => self.trace.push(Event::Barrier { core: 0 }),
-                1 => self.trace.push(Event::NewStrand { core: 0 }),
+                0 => self.push(Event::Barrier { core: 0 }),
+                1 => self.push(Event::NewStrand { core: 0 }),
                 _ if self.durable < self.persists.len() => return false,
-                _ => self.trace.push(Event::Join { core: 0 }),
+                _ => self.push(Event::Join { core: 0 }),
             },
             0x73 => {
                 if w >> 20 == 1 || self.regs[17] == 0 {
                     self.life = Life::Halted;
                     next = self.pc;
                 } else if self.regs[17] == 1 {
-                    self.trace.push(Event::Out { core: 0, value: self.regs[10] });
+                    self.push(Event::Out { core: 0, value: self.regs[10] });
                 } else {
                     self.life = Life::Trapped;
                     next = self.pc;
@@ -255,6 +285,8 @@ fn main() {
         pc: CODE + 4 * u32_at(&bytes, 24) as u64,
         life: Life::Running,
         trace: Vec::with_capacity(stop),
+        marks: Vec::with_capacity(stop),
+        latest: Marks { accesses: 0, strands: 0, borders: 0, strand_borders: 0 },
         persists: Vec::with_capacity(stop),
         retired: Vec::with_capacity(stop),
         durable: 0,
