@@ -18,8 +18,8 @@ use Rattle.strand_rules.specs.Machine.{StoresOk, StoresErr}
 use Rattle.strand_rules.specs.Visible.{Program, grown}
 use Rattle.strand_rules.proofs.Stored.{set_in_range}
 use Rattle.strand_rules.proofs.Standing.{written_front, image_length}
-use Rattle.strand_cycle.specs.declared.turn.Turn.{Turn}
-use Rattle.strand_cycle.specs.declared.turn.Turn.TheVariants.{Done, Bubble, Fault}
+use Rattle.strand_rules.specs.declared.turn.Turn.{Turn}
+use Rattle.strand_rules.specs.declared.turn.Turn.TheVariants.{Done, Bubble, Fault}
 use Rattle.strand_cycle.specs.Cycle.{State, unmarked, durable_set, front, eligible, next_event, core_after, item_after, send_after, write_after, done_after, after_turn, turn, after}
 use Rattle.strand_cycle.specs.Machine.{Machine, Steps, StandsOn, stored_for, stored_by}
 use Rattle.strand_cycle.proofs.Keeping.{within}

@@ -7,7 +7,7 @@ use Rattle.strand_base.proofs.Counting.{any_false, count_mono}
 use Rattle.strand_inputs.specs.Settings.{Settings}
 use Rattle.strand_events.specs.Trace.{is_persist, is_new_strand, core_at, event_is, core_event_is, strand_number}
 use Rattle.strand_events.specs.Order.{held}
-use Rattle.strand_cycle.specs.declared.turn.Turn.TheVariants.{Done}
+use Rattle.strand_rules.specs.declared.turn.Turn.TheVariants.{Done}
 use Rattle.strand_cycle.specs.Cycle.{State, is_item, gone, front, is_accepted, buffer_of, item_turn}
 use Rattle.strand_cycle.specs.Parts.{rank}
 use Rattle.strand_cycle.proofs.Keeping.{within}

@@ -15,9 +15,9 @@ use Rattle.strand_events.specs.declared.event.Event.{Event}
 use Rattle.strand_events.specs.Trace.{is_persist, core_at, event_is, core_event_is}
 use Rattle.strand_events.specs.Order.{held}
 use Rattle.strand_rules.specs.Visible.{Program, grown}
-use Rattle.strand_cycle.specs.declared.turn.Turn.{Turn}
-use Rattle.strand_cycle.specs.declared.turn.Cause.TheVariants as causes
-use Rattle.strand_cycle.specs.declared.turn.Turn.TheVariants.{Done, Bubble, Fault}
+use Rattle.strand_rules.specs.declared.turn.Turn.{Turn}
+use Rattle.strand_rules.specs.declared.turn.Cause.TheVariants as causes
+use Rattle.strand_rules.specs.declared.turn.Turn.TheVariants.{Done, Bubble, Fault}
 use Rattle.strand_cycle.specs.Cycle.{State, is_item, gone, front, eligible, turn, item_turn, send_turn, next_event, unmarked, core_after, item_after, send_after, write_after, done_after, after_turn, after, run, start_at}
 use Rattle.strand_cycle.proofs.Keeping.{within}
 use Rattle.strand_cycle.proofs.MarkSets.{held_grown, held_set}

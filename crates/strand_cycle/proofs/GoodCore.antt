@@ -11,8 +11,8 @@ use Rattle.strand_events.specs.Trace.{passes, is_persist, is_store, is_access, c
 use Rattle.strand_events.specs.Order.{held, conflicts}
 use Rattle.strand_events.proofs.Prefix.{core_kept}
 use Rattle.strand_rules.specs.Visible.{Program, event_of, grown, next_plan}
-use Rattle.strand_cycle.specs.declared.turn.Cause.TheVariants as causes
-use Rattle.strand_cycle.specs.declared.turn.Turn.TheVariants.{Done}
+use Rattle.strand_rules.specs.declared.turn.Cause.TheVariants as causes
+use Rattle.strand_rules.specs.declared.turn.Turn.TheVariants.{Done}
 use Rattle.strand_cycle.specs.Cycle.{State, core_turn, made_turn, event_in, next_event, unmarked, core_after}
 use Rattle.strand_cycle.proofs.Keeping.{within, marks_length}
 use Rattle.strand_cycle.proofs.Next.{core_new}

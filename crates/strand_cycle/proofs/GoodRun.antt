@@ -8,8 +8,8 @@ use Rattle.strand_exec.specs.Core as cores
 use Rattle.strand_exec.specs.Memory.{Memory}
 use Rattle.strand_events.specs.Order.{held, IsDownwardClosed, HoldsJoined}
 use Rattle.strand_rules.specs.Visible.{Program}
-use Rattle.strand_cycle.specs.declared.turn.Turn.{Turn}
-use Rattle.strand_cycle.specs.declared.turn.Turn.TheVariants.{Done, Bubble, Fault}
+use Rattle.strand_rules.specs.declared.turn.Turn.{Turn}
+use Rattle.strand_rules.specs.declared.turn.Turn.TheVariants.{Done, Bubble, Fault}
 use Rattle.strand_cycle.specs.Cycle.{State, turn, done_after, after_turn, after, run, start_at, durable_set, front, eligible}
 use Rattle.strand_cycle.proofs.Ordered.{closed}
 use Rattle.strand_cycle.proofs.Good.{IsGood, start_good}

@@ -8,8 +8,8 @@ use Rattle.strand_base.proofs.Counting.{any_false}
 use Rattle.strand_inputs.specs.Settings.{Settings}
 use Rattle.strand_events.specs.Trace.{is_persist, word_at}
 use Rattle.strand_events.specs.Order.{held}
-use Rattle.strand_cycle.specs.declared.turn.Cause.TheVariants as causes
-use Rattle.strand_cycle.specs.declared.turn.Turn.TheVariants.{Done}
+use Rattle.strand_rules.specs.declared.turn.Cause.TheVariants as causes
+use Rattle.strand_rules.specs.declared.turn.Turn.TheVariants.{Done}
 use Rattle.strand_cycle.specs.Cycle.{State, has_word_of, older_waits, write_turn, write_after}
 use Rattle.strand_cycle.proofs.Keeping.{within}
 use Rattle.strand_cycle.proofs.MarkSets.{held_set}

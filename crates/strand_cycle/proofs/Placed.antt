@@ -14,8 +14,8 @@ use Rattle.strand_exec.proofs.StoresData.{plan_data}
 use Rattle.strand_events.specs.declared.event.Event.{Event}
 use Rattle.strand_rules.specs.Visible.{Program, Visible, grown, plan_by, plan_in}
 use Rattle.strand_rules.specs.Kept.{IsPlaced}
-use Rattle.strand_cycle.specs.declared.turn.Turn.{Turn}
-use Rattle.strand_cycle.specs.declared.turn.Turn.TheVariants.{Done, Bubble, Fault}
+use Rattle.strand_rules.specs.declared.turn.Turn.{Turn}
+use Rattle.strand_rules.specs.declared.turn.Turn.TheVariants.{Done, Bubble, Fault}
 use Rattle.strand_cycle.specs.Cycle.{State, turn, done_after, after_turn, after, run, front, eligible, event_in, item_after, send_after, write_after}
 use Rattle.strand_cycle.proofs.Placing.{event_placed}
 use Rattle.strand_cycle.proofs.Retired.{retired_trace}

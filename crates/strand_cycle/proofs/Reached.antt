@@ -12,9 +12,9 @@ use Rattle.strand_exec.specs.declared.planned.Plan.{Plan}
 use Rattle.strand_events.specs.declared.event.Event.{Event}
 use Rattle.strand_events.specs.Order.{IsDownwardClosed, HoldsJoined}
 use Rattle.strand_rules.specs.Visible.{Program, event_of, next_plan}
-use Rattle.strand_cycle.specs.declared.turn.Turn.{Turn}
-use Rattle.strand_cycle.specs.declared.turn.Cause.TheVariants as causes
-use Rattle.strand_cycle.specs.declared.turn.Turn.TheVariants.{Done, Bubble}
+use Rattle.strand_rules.specs.declared.turn.Turn.{Turn}
+use Rattle.strand_rules.specs.declared.turn.Cause.TheVariants as causes
+use Rattle.strand_rules.specs.declared.turn.Turn.TheVariants.{Done, Bubble}
 use Rattle.strand_cycle.specs.Cycle.{State, core_turn, made_turn, item_turn, send_turn, write_turn, turn, event_in, next_event, front, eligible, older_waits, core_after, item_after, send_after, write_after, done_after, after_turn, after, run, start_at, durable_set, IsReached}
 use Rattle.strand_cycle.specs.Machine.{Machine, Steps, StandsOn, stepped}
 use Rattle.strand_cycle.proofs.Keeping.{IsStart}

@@ -6,7 +6,7 @@ use Rattle.strand_base.specs.Counting.{count_below}
 use Rattle.strand_inputs.specs.Settings.{Settings}
 use Rattle.strand_events.specs.Trace.{is_persist, event_is, core_event_is, same_strand}
 use Rattle.strand_events.specs.Order.{held}
-use Rattle.strand_cycle.specs.declared.turn.Turn.TheVariants.{Done}
+use Rattle.strand_rules.specs.declared.turn.Turn.TheVariants.{Done}
 use Rattle.strand_cycle.specs.Cycle.{State, is_item, gone, front, is_accepted, is_of_ring, ring_use, item_turn}
 use Rattle.strand_cycle.proofs.MarkSets.{number_set, number_other}
 use Rattle.strand_cycle.proofs.Ranks.{same_rank}

@@ -11,8 +11,8 @@ use Rattle.strand_events.specs.Trace.{is_persist, is_new_strand, core_at, event_
 use Rattle.strand_events.specs.Order.{held}
 use Rattle.strand_events.proofs.Prefix.{event_is_kept, core_event_kept, strand_kept}
 use Rattle.strand_events.proofs.Epochs.{strand_parts}
-use Rattle.strand_cycle.specs.declared.turn.Cause.TheVariants as causes
-use Rattle.strand_cycle.specs.declared.turn.Turn.TheVariants.{Done, Bubble}
+use Rattle.strand_rules.specs.declared.turn.Cause.TheVariants as causes
+use Rattle.strand_rules.specs.declared.turn.Turn.TheVariants.{Done, Bubble}
 use Rattle.strand_cycle.specs.Cycle.{State, is_item, is_dispatched, is_accepted, is_of_ring, ring_use, buffer_of, buffer_busy, item_turn}
 use Rattle.strand_cycle.specs.Looking.{state_of}
 use Rattle.strand_cycle.proofs.Marked.{held_more}

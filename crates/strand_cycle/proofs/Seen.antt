@@ -5,8 +5,8 @@ use Rattle.std.specs.declared.option.Option.{Option}
 use Rattle.strand_inputs.specs.Settings.{Settings}
 use Rattle.strand_inputs.specs.declared.step.Step.{Step}
 use Rattle.strand_inputs.specs.declared.step.Step.TheVariants.{Core, Dispatch, Send, Write}
-use Rattle.strand_cycle.specs.declared.turn.Turn.{Turn}
-use Rattle.strand_cycle.specs.declared.turn.Turn.TheVariants.{Done, Bubble, Fault}
+use Rattle.strand_rules.specs.declared.turn.Turn.{Turn}
+use Rattle.strand_rules.specs.declared.turn.Turn.TheVariants.{Done, Bubble, Fault}
 use Rattle.strand_rules.specs.Visible.{Program, Visible, retire, visible}
 use Rattle.strand_cycle.specs.Cycle.{State, turn, next_event, core_after, item_after, send_after, write_after, front, eligible, after_turn, after, run}
 

@@ -5,8 +5,8 @@ use Rattle.std.specs.declared.option.Option.{Option}
 use Rattle.strand_inputs.specs.declared.step.Step.TheVariants.{Core}
 use Rattle.strand_exec.specs.Core as cores
 use Rattle.strand_exec.specs.declared.planned.Plan.{Plan}
-use Rattle.strand_cycle.specs.declared.turn.Turn.{Turn}
-use Rattle.strand_cycle.specs.declared.turn.Turn.TheVariants.{Done, Bubble, Fault}
+use Rattle.strand_rules.specs.declared.turn.Turn.{Turn}
+use Rattle.strand_rules.specs.declared.turn.Turn.TheVariants.{Done, Bubble, Fault}
 use Rattle.strand_rules.specs.Visible.{Program, Visible, plan_by, moved_by, moved_in, retire}
 use Rattle.strand_rules.specs.Bank.{BankSeen}
 use Rattle.strand_cycle.specs.Cycle.{State, turn, done_after, after_turn}

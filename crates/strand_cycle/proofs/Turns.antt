@@ -9,10 +9,10 @@ use Rattle.strand_events.specs.declared.event.Event.{Event}
 use Rattle.strand_events.specs.Trace.{is_persist, is_access, is_join, core_at, event_is, core_event_is, same_strand}
 use Rattle.strand_events.specs.Order.{Set, held, conflicts}
 use Rattle.strand_events.proofs.Chain.{AllDurableTo}
-use Rattle.strand_cycle.specs.declared.turn.Cause.{Cause}
-use Rattle.strand_cycle.specs.declared.turn.Cause.TheVariants as causes
-use Rattle.strand_cycle.specs.declared.turn.Turn.{Turn}
-use Rattle.strand_cycle.specs.declared.turn.Turn.TheVariants.{Done, Bubble, Fault}
+use Rattle.strand_rules.specs.declared.turn.Cause.{Cause}
+use Rattle.strand_rules.specs.declared.turn.Cause.TheVariants as causes
+use Rattle.strand_rules.specs.declared.turn.Turn.{Turn}
+use Rattle.strand_rules.specs.declared.turn.Turn.TheVariants.{Done, Bubble, Fault}
 use Rattle.strand_cycle.specs.Cycle.{State, queued, some_wait, must_wait, join_waits, is_item, event_turn}
 
 abbrev is_bubble : Turn → Bool

@@ -14,9 +14,9 @@ use Rattle.strand_events.specs.declared.event.Event.{Event}
 use Rattle.strand_events.specs.Trace.{is_access, is_persist, is_barrier, is_new_strand, is_join, core_at, word_at, value_at, event_is, core_event_is, strand_number, same_strand, epoch}
 use Rattle.strand_events.specs.Order.{Set, held, conflicts}
 use Rattle.strand_rules.specs.Cycle.{Request, place_of}
-use Rattle.strand_cycle.specs.declared.turn.Cause.TheVariants as causes
-use Rattle.strand_cycle.specs.declared.turn.Turn.{Turn}
-use Rattle.strand_cycle.specs.declared.turn.Turn.TheVariants.{Done, Bubble, Fault}
+use Rattle.strand_rules.specs.declared.turn.Cause.TheVariants as causes
+use Rattle.strand_rules.specs.declared.turn.Turn.{Turn}
+use Rattle.strand_rules.specs.declared.turn.Turn.TheVariants.{Done, Bubble, Fault}
 use Rattle.strand_rules.specs.Visible.{Program, Visible, event_of, next_plan, retire}
 
 pub record State : Type 0 where

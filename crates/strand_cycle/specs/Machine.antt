@@ -11,8 +11,8 @@ use Rattle.strand_exec.specs.Plan.{plan_of, IsPlaced}
 use Rattle.strand_exec.specs.declared.planned.Plan.{Plan}
 use Rattle.strand_exec.specs.declared.life.Life.TheVariants.{Running}
 use Rattle.strand_events.specs.Trace.{persists_of}
-use Rattle.strand_cycle.specs.declared.turn.Turn.{Turn}
-use Rattle.strand_cycle.specs.declared.turn.Turn.TheVariants.{Done, Bubble, Fault}
+use Rattle.strand_rules.specs.declared.turn.Turn.{Turn}
+use Rattle.strand_rules.specs.declared.turn.Turn.TheVariants.{Done, Bubble, Fault}
 use Rattle.strand_rules.specs.Bank.{BankSeen, front_written}
 use Rattle.strand_rules.specs.Cycle.{Request, persistent_image}
 use Rattle.strand_rules.specs.Machine.{program_of, StoresOk, StoresErr}

@@ -6,12 +6,13 @@ ghost use Rattle.strand_rules.specs.Visible.{event_of, next_plan};
 ghost use Rattle.strand_cycle.specs.Cycle.{turn, made_turn, core_after, IsReached};
 ghost use Rattle.strand_cycle.specs.Machine.{stepped, made_to, Runs};
 
+use crate::CycleMachine;
 use crate::acting::{act, event_of, note};
 use crate::core_rules::{item_count, must_wait, some_wait};
 use crate::event_tests::{is_access, is_item, is_join};
-use crate::{Cause, CycleMachine, Turn};
 use strand_events::Event;
 use strand_exec::{Life, Plan, finish, plan};
+use strand_rules::{Cause, Turn};
 
 impl CycleMachine {
     // What the next instruction of core n asks of the world, if the core runs.

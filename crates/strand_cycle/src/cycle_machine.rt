@@ -5,7 +5,6 @@ ghost use Rattle.strand_events.specs.Order.{HoldsJoined, IsDownwardClosed};
 ghost use Rattle.strand_cycle.specs.Cycle.{durable_set};
 ghost use Rattle.strand_cycle.specs.Machine.{machine_at, made_to, durable_persists, SameSetup, StandsOn, Steps};
 
-use crate::{Cause, Turn};
 use std::alloc::Global;
 use std::marker::Model;
 use strand_base::OutOfMemory;
@@ -13,7 +12,7 @@ use strand_events::Trace;
 use strand_exec::{CoreState, FlatMemory, Sizes};
 use strand_image::Image;
 use strand_inputs::{Config, Step};
-use strand_rules::ModuleBank;
+use strand_rules::{Cause, ModuleBank, Turn};
 
 /// The machine that runs an image under a schedule, one step at a time, by the cycle rules
 /// (docs/cycle.md). It takes no memory after it is made, and looks back over its trace.

@@ -5,9 +5,10 @@ ghost use Rattle.strand_inputs.specs.declared.step.Step.TheVariants.{Dispatch};
 ghost use Rattle.strand_cycle.specs.Cycle.{turn, front, ring_use, buffer_of, buffer_busy, item_turn, item_after, IsReached};
 ghost use Rattle.strand_cycle.specs.Machine.{stepped, made_to};
 
+use crate::CycleMachine;
 use crate::dispatch_rules::{buffer_busy, item_at, ring_use};
 use crate::event_tests::{is_new_strand, is_persist, is_persist_at};
-use crate::{Cause, CycleMachine, Turn};
+use strand_rules::{Cause, Turn};
 
 impl CycleMachine {
     // The first item of core n's queue.

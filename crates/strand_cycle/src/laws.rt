@@ -6,7 +6,7 @@ ghost use Rattle.strand_exec.specs.Memory.{Memory};
 ghost use Rattle.strand_events.specs.Order.{IsDownwardClosed, HoldsJoined};
 ghost use Rattle.strand_rules.specs.Bank.{BankSeen};
 ghost use Rattle.strand_rules.specs.Visible.{Program, visible};
-ghost use Rattle.strand_cycle.specs.declared.turn.Turn.{Turn};
+ghost use Rattle.strand_rules.specs.declared.turn.Turn.{Turn};
 ghost use Rattle.strand_cycle.specs.Cycle.{State, run, start_at, durable_set, IsReached};
 ghost use Rattle.strand_cycle.specs.Machine.{Machine, Steps, StandsOn};
 ghost use Rattle.strand_cycle.specs.Parts.{AreInOrder, AreParts, AreSettled, FitBuffers};

@@ -14,9 +14,7 @@ mod laws;
 mod send_rules;
 #[cfg(test)]
 mod tests;
-mod turn;
 mod write_steps;
 
 pub use cycle_machine::CycleMachine;
 pub use laws::{durable_sets_are_allowed, parts_are_kept, visible_runs_are_kept};
-pub use turn::{Cause, Turn};

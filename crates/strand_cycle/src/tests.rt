@@ -7,7 +7,7 @@ use std::process::Abort;
 use std::test::*;
 use strand_image::Image;
 use strand_inputs::{Config, Mode, Step, read_schedule};
-use strand_rules::{ModuleBank, RamModule};
+use strand_rules::{ModuleBank, RamModule, Turn};
 
 const MACHINE: Config = Config {
     mode: Mode::Strand,

@@ -6,9 +6,9 @@ ghost use Rattle.strand_inputs.specs.declared.step.Step.TheVariants.{Send, Write
 ghost use Rattle.strand_cycle.specs.Cycle.{turn, eligible, send_after, older_waits, request_of, write_after, IsReached};
 ghost use Rattle.strand_cycle.specs.Machine.{stepped, made_to, Steps};
 
+use crate::CycleMachine;
 use crate::send_rules::{eligible_at, older_waits, persist_number, request};
-use crate::{Cause, CycleMachine, Turn};
-use strand_rules::{AtModule, ModuleBank};
+use strand_rules::{AtModule, Cause, ModuleBank, Turn};
 
 impl CycleMachine {
     // The eligible persist of buffer b of core n at place j.

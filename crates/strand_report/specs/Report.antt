@@ -69,14 +69,10 @@ run_text stop cores trace held fault =
     ++ (held_lines held
     ++ fault_lines fault)))
 
--- the lines of the report to come, in their order
+-- the lines of a report with queues and strand buffers, in their order: what the cores did, what the steps came to and
+-- what the cores see, what the modules hold, and where a module refused a store, that as the last line
 abbrev pub full_text : ℕ → List Core → List Event → List BubbleAt → Memory → List ℕ → List Bool → Option StepFault → List ℕ
 full_text stop cores trace bubbles memory held marks fault =
-    stop_line stop
-    ++ (numbered core_lines cores
-    ++ (out_lines trace
-    ++ (bubble_lines bubbles
-    ++ (visible_lines memory
-    ++ (held_lines held
-    ++ (durable_line marks
-    ++ fault_lines fault))))))
+    (stop_line stop ++ (numbered core_lines cores ++ out_lines trace))
+    ++ ((bubble_lines bubbles ++ visible_lines memory)
+    ++ (held_lines held ++ (durable_line marks ++ fault_lines fault)))

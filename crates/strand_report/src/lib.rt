@@ -6,6 +6,7 @@ mod bubbles;
 mod cores;
 mod durable;
 mod fault_lines;
+mod full_run;
 mod outs;
 mod run;
 mod visible;
@@ -17,6 +18,7 @@ pub use fault_lines::{
     StepFault, write_file_fault, write_fill_fault, write_input_fault, write_read_fault,
     write_words_fault,
 };
+pub use full_run::{FullRunView, write_full_run};
 pub use run::{RunView, write_run};
 pub use visible::write_visible;
 

@@ -26,7 +26,7 @@ pub struct RunView<'a> {
 }
 
 /// The line of the stop.
-fn put_stop(into: &mut Vec<u8>, stop: u64) -> Result<(), OutOfMemory>
+pub(crate) fn put_stop(into: &mut Vec<u8>, stop: u64) -> Result<(), OutOfMemory>
     ensures { Puts result (stop_line stop) into.old.items into.new.items }
 {
     let mut number = Buffer::new();
@@ -34,7 +34,7 @@ fn put_stop(into: &mut Vec<u8>, stop: u64) -> Result<(), OutOfMemory>
 }
 
 /// The line of a refused store, where there was one.
-fn put_fault(into: &mut Vec<u8>, fault: Option<StepFault>) -> Result<(), OutOfMemory>
+pub(crate) fn put_fault(into: &mut Vec<u8>, fault: Option<StepFault>) -> Result<(), OutOfMemory>
     ensures { Puts result (fault_lines fault) into.old.items into.new.items }
 {
     match fault {

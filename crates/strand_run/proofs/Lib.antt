@@ -1,0 +1,4 @@
+mod OneByOne
+mod Turned
+mod Made
+mod Ended

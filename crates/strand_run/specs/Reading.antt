@@ -1,0 +1,20 @@
+-- A read of the bank's first words.
+use Rattle.std.specs.Prelude.{◌≡◌, ℕ, List, length, take, IfOk, IfErr, IfSome, OnOk}
+use Rattle.std.specs.declared.result.Result.{Result}
+use Rattle.strand_rules.specs.Bank.{BankSeen, Keeps, Refuses, read_refused}
+use Rattle.strand_run.specs.declared.reading.ReadFault.{ReadFault}
+use Rattle.strand_run.specs.declared.reading.ReadFault.TheVariants as faults
+
+-- the module refused the read, or there was no memory for the words
+abbrev pub ReadFails : BankSeen → BankSeen → ReadFault → Type 0
+ReadFails bank bank' (faults.Module part) = Refuses read_refused bank bank' part
+ReadFails bank bank' faults.OutOfMemory = bank'.refused ≡ bank.refused
+
+-- a read of the first words
+pub record ReadsFirst {V : Type 0} (items : V → List ℕ) (bank bank' : BankSeen) (count : ℕ) (result : Result V ReadFault) : Type 0 where
+  pub kept : Keeps bank bank'
+  pub same : bank'.told ≡ bank.told
+  pub length_is : IfOk result (λ words. length (items words) ≡ count)
+  pub words_are : IfOk result (λ words. IfSome bank.told (λ told. items words ≡ take count told))
+  pub accepted : OnOk result (bank'.refused ≡ bank.refused)
+  pub failed : IfErr result (ReadFails bank bank')

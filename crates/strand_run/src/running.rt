@@ -1,0 +1,88 @@
+ghost use Rattle.std.specs.Prelude.{◌≡◌, ◌≤◌, All, length, IfOk, OnErr};
+ghost use Rattle.strand_inputs.specs.Schedule.{IsBelow};
+ghost use Rattle.strand_rules.specs.Bank.{Keeps};
+ghost use Rattle.strand_run.specs.Outcome.{MayLeave, RunsTo};
+ghost use Rattle.strand_run.specs.Stepping.{steps_before};
+
+use crate::reading::{ReadFault, read_words};
+use crate::stepping::make_steps;
+use std::alloc::Global;
+use strand_base::OutOfMemory;
+use strand_cycle::CycleMachine;
+use strand_image::Image;
+use strand_inputs::{Config, Step};
+use strand_report::{BubbleAt, StepFault};
+use strand_rules::{AtModule, ModuleBank};
+
+/// What a run came to whose words were read at the end.
+#[derive(Drop)]
+pub struct Run {
+    /// How many steps were made.
+    pub stop: u64,
+    /// The machine after them.
+    pub machine: CycleMachine,
+    /// Those of them that did nothing.
+    pub bubbles: Vec<BubbleAt>,
+    /// The words that the modules hold, as many as the image has persistent words.
+    pub held: Vec<u64>,
+    /// The store that a module refused at the next step, if it did.
+    pub fault: Option<StepFault>,
+}
+
+/// How a run ended.
+#[derive(Drop)]
+pub enum RunEnd {
+    /// This module, counted from 0, refused a word of the fill.
+    FillRefused { module: u32 },
+    /// This module refused to tell a word at the end.
+    ReadRefused { module: u32 },
+    /// The words were read.
+    Told { run: Run },
+}
+
+/// Fills the bank with the image's persistent words, makes the steps on the machine of these settings,
+/// up to the first whose store a module refuses, and reads the bank.
+pub fn run_image(
+    alloc: Global,
+    config: &Config,
+    image: &Image,
+    steps: &[Step],
+    bank: &mut ModuleBank,
+) -> Result<RunEnd, OutOfMemory>
+    requires room { length image.now.persistent ≤ bank.old.size }
+    requires few { length steps.now ≤ 200000 }
+    requires below { All (IsBelow (length image.now.entries) config.now.buffers) steps.now }
+    ensures ran { IfOk result (λ end. RunsTo config.now image.now steps.now bank.old bank.new end) }
+    ensures memory { OnErr result (Keeps bank.old bank.new × MayLeave config.now image.now steps.now bank.old bank.new) }
+{
+    let mut machine = CycleMachine::new(alloc, config, image, steps.len() as u64)?;
+    let mut bubbles = Vec::with_capacity(alloc, steps.len())?;
+    let count = image.persistent().len();
+    if let Err(AtModule { module }) = bank.fill(image.persistent()) {
+        return Ok(RunEnd::FillRefused { module });
+    }
+    let fault = make_steps(&mut machine, steps, bank, &mut bubbles);
+    match read_words(alloc, count, bank) {
+        Ok(held) => Ok(RunEnd::Told {
+            run: Run {
+                stop: steps_made(fault, steps),
+                machine,
+                bubbles,
+                held,
+                fault,
+            },
+        }),
+        Err(ReadFault::Module { module }) => Ok(RunEnd::ReadRefused { module }),
+        Err(ReadFault::OutOfMemory) => Err(OutOfMemory),
+    }
+}
+
+// How many steps were made.
+fn steps_made(fault: Option<StepFault>, steps: &[Step]) -> u64
+    ensures { result ≡ steps_before fault (length steps.now) }
+{
+    match fault {
+        Some(fault) => fault.step.saturating_sub(1),
+        None => steps.len() as u64,
+    }
+}

@@ -1,0 +1,40 @@
+ghost use Rattle.std.specs.Prelude.{◌≡◌, ◌≤◌, ◌+◌, [], All, length, vec_capacity};
+ghost use Rattle.strand_inputs.specs.Schedule.{IsBelow};
+ghost use Rattle.strand_run.specs.Stepping.{MakesSteps};
+
+use strand_cycle::CycleMachine;
+use strand_inputs::Step;
+use strand_report::{BubbleAt, StepFault};
+use strand_rules::{ModuleBank, Turn};
+
+/// Makes the steps, up to the first whose store a module refuses, and notes those that did nothing.
+pub fn make_steps(
+    machine: &mut CycleMachine,
+    steps: &[Step],
+    bank: &mut ModuleBank,
+    bubbles: &mut Vec<BubbleAt>,
+) -> Option<StepFault>
+    requires room { machine.old.made + length steps.now ≤ machine.old.steps }
+    requires below { All (IsBelow (length machine.old.state.now.cores) machine.old.config.buffers) steps.now }
+    requires bank { machine.old.program.sizes.persistent ≤ bank.old.size }
+    requires space { length steps.now ≤ vec_capacity bubbles.old }
+    requires empty { bubbles.old.items ≡ [] }
+    ensures { MakesSteps machine.old machine.new steps.now bank.old bank.new bubbles.new.items result }
+{
+    for (i, step) in steps.iter().enumerate() {
+        match machine.step(*step, bank) {
+            Turn::Done => {}
+            Turn::Bubble(cause) => bubbles.push_reserved(BubbleAt {
+                cycle: i as u64 + 1,
+                cause,
+            }),
+            Turn::Fault { module } => {
+                return Some(StepFault {
+                    module,
+                    step: i as u64 + 1,
+                });
+            }
+        }
+    }
+    None
+}
