@@ -1,12 +1,11 @@
 -- An image was run on a bank: the fill, the steps, the read at the end.
-use Rattle.std.proofs.Common.{◌≡◌, ℕ, ◌-◌, ◌<◌, ◌≤◌, List, [], ◌++◌, length, take, drop, refl, sym, ap, ◌∙◌, arith, inr, subst}
+use Rattle.std.proofs.Common.{◌≡◌, ℕ, ◌-◌, ◌<◌, ◌≤◌, List, [], length, take, refl, sym, ap, ◌∙◌, arith, inr, subst}
 use Rattle.std.specs.Prelude.{None, Some, Ok, Err, IfOk, OnErr, IfSome, OnSome, slice_get}
 use Rattle.std.specs.declared.result.Result.{Result}
 use Rattle.strand_base.specs.declared.out_of_memory.OutOfMemory.{OutOfMemory}
 use Rattle.strand_app.specs.declared.status.Made.{Made}
 use Rattle.std.specs.declared.option.Option.{Option}
 use Rattle.std.proofs.lemmas.List.{length-take-le, take_all}
-use Rattle.std.proofs.Math.Seq.{take-append_seam}
 use Rattle.std.proofs.lemmas.List.FromFn.{length-map-range_with_len}
 use Rattle.std.proofs.lemmas.Option.{slice_get_within}
 use Rattle.strand_image.specs.Parts.{Parts}
@@ -15,12 +14,12 @@ use Rattle.strand_report.specs.Report.{run_text}
 use Rattle.strand_report.specs.FaultLines.{read_fault, fill_fault}
 use Rattle.strand_report.specs.declared.fault_lines.StepFault.{StepFault}
 use Rattle.strand_rules.specs.Bank.{BankSeen, Keeps, Fills, Refuses, store_refused, read_refused, fill_refused, front_written}
-use Rattle.strand_rules.specs.declared.refusals.Refusals.{Refusals}
 use Rattle.strand_rules.specs.Visible.{Program}
 use Rattle.strand_rules.specs.Cycle.{State, run, first_persists, persistent_image}
 use Rattle.strand_rules.specs.Machine.{Machine, machine_at, program_of, start_of}
 use Rattle.strand_rules.proofs.Fronts.{keeps_trans, refuses_after}
 use Rattle.strand_rules.proofs.Stored.{image_begins}
+use Rattle.strand_run.proofs.Ended.{held_is, refuses_before}
 use Rattle.strand_app.specs.declared.status.Status.{Status}
 use Rattle.strand_app.specs.declared.status.Status.TheVariants as status
 use Rattle.strand_app.specs.World.{absent, step, read, step_and_read, fill}
@@ -31,17 +30,6 @@ use Rattle.strand_app.specs.Stepping.{MakesSteps, StepsTo}
 image_length : (p : Parts) (s : State) → length (words_of_state p s) ≡ length p.persistent
 unfolding persistent_image
 image_length p s = length-map-range_with_len _ 0 (length p.persistent)
-
--- the words that were read are those of the image, where the bank told its words
-held_is : (told now : Option (List ℕ)) (image held : List ℕ) (count : ℕ) → length image ≡ count → now ≡ front_written image told → IfSome now (λ words. held ≡ take count words) → OnSome told (held ≡ image)
-held_is None now image held count long e is = tt
-held_is (Some ws) now image held count long e is =
-    subst (λ (t : Option (List ℕ)). IfSome t (λ words. held ≡ take count words)) e is ∙ ap (λ (n : ℕ). take n (image ++ drop (length image) ws)) (sym long) ∙ take-append_seam image (drop (length image) ws)
-
--- calls that were accepted after a refusal
-refuses_before : (count : Refusals → Refusals) (a b c : BankSeen) (k : ℕ) → Keeps b c → c.refused ≡ b.refused → Refuses count a b k → Refuses count a c k
-refuses_before count a b c k kept same refuses =
-    record { exists = refuses.exists; counted = same ∙ refuses.counted; rose = omega (arith, refuses.rose, kept.later k) }
 
 step_within : (count : ℕ) (program : Program) (s : State) (steps : List Step) (k m : ℕ) → StoresAt count program s steps k m → k - 1 ≤ length steps
 step_within count program s steps k m stores = go (slice_get steps (k - 1)) refl stores.1

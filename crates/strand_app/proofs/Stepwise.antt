@@ -1,9 +1,9 @@
--- The bank's first words, read one by one; and steps made one by one.
+-- Steps made one by one.
 use Rattle.std.proofs.Common.{◌≡◌, ℕ, ◌+◌, ◌-◌, ◌<◌, ◌≤◌, List, [], ◌∷◌, ◌++◌, length, take, get_or, refl, sym, ap, ◌∙◌, arith, subst}
-use Rattle.std.specs.Prelude.{None, Some, IfSome, slice_get}
+use Rattle.std.specs.Prelude.{None, Some}
 use Rattle.std.specs.declared.option.Option.{Option}
 use Rattle.std.proofs.lemmas.List.{take_more, take_all}
-use Rattle.std.proofs.lemmas.Option.{get_or_from_slice_get, slice_get_within, slice_get-get_or}
+use Rattle.std.proofs.lemmas.Option.{slice_get-get_or}
 use Rattle.strand_inputs.specs.declared.step.Step.{Step}
 use Rattle.strand_rules.specs.Bank.{BankSeen, Keeps, Refuses, store_refused}
 use Rattle.strand_rules.specs.Visible.{Program}
@@ -14,23 +14,6 @@ use Rattle.strand_rules.specs.Machine.{Machine, StandsOn, Steps, StoresOk, Store
 use Rattle.strand_rules.proofs.Fronts.{keeps_same, keeps_trans, refuses_after}
 use Rattle.strand_app.specs.RunAnswer.{IsModuleOf}
 use Rattle.strand_app.specs.Stepping.{MakesSteps}
-
--- one word more
-pub read_more : (told now : Option (List ℕ)) (xs : List ℕ) (i word : ℕ) → now ≡ told → IfSome now (λ words. slice_get words i ≡ Some word) → IfSome told (λ words. xs ≡ take i words)
-    → IfSome told (λ words. xs ++ word ∷ [] ≡ take (i + 1) words)
-read_more told now xs i word same here before = go told (subst (λ (t : Option (List ℕ)). IfSome t (λ words. slice_get words i ≡ Some word)) same here) before
-  where
-    go : (told : Option (List ℕ)) → IfSome told (λ words. slice_get words i ≡ Some word) → IfSome told (λ words. xs ≡ take i words) → IfSome told (λ words. xs ++ word ∷ [] ≡ take (i + 1) words)
-    go None here before = tt
-    go (Some words) here before =
-        let lt = slice_get_within words i word here in
-        let value : get_or words i word ≡ word = get_or_from_slice_get words i word word here in
-        rw (take_more words i word lt, value, before) refl
-
--- nothing was read yet
-pub read_none : (told : Option (List ℕ)) → IfSome told (λ words. [] ≡ take 0 words)
-read_none None = tt
-read_none (Some words) = refl
 
 -- one step more at the end
 pub run_more : (p : Program) (s : State) (steps : List Step) (step : Step) → run p s (steps ++ step ∷ []) ≡ after p (run p s steps) step

@@ -1,9 +1,10 @@
--- What a command sees of the outside, the one fault that it met, and what it makes.
+-- What a command sees of the outside, and what it makes.
 use Rattle.std.specs.Prelude.{◌≡◌, ℕ, zero, suc, ◌-◌, ◌≤◌, List, [], ◌∷◌, IfSome, slice_get}
 use Rattle.std.specs.declared.option.Option.{Option}
 use Rattle.strand_base.specs.FilesSeen.{FilesSeen, Held, IsFile}
 use Rattle.strand_base.specs.Counts.{Rose, next}
-use Rattle.strand_rules.specs.Bank.{BankSeen, Keeps, Refuses, fill_refused, store_refused, read_refused}
+use Rattle.strand_rules.specs.Bank.{BankSeen, Keeps}
+pub use Rattle.strand_run.specs.Fault.{Fault, absent, fetch, fill, step, read, step_and_read, RefusesTwice, ShownByBank}
 use Rattle.strand_app.specs.declared.status.Status.{Status}
 
 pub record World : Type 0 where
@@ -12,20 +13,6 @@ pub record World : Type 0 where
 
 abbrev pub world : FilesSeen → BankSeen → World
 world files bank = record { files = files; bank = bank }
-
--- Files are counted from 1, modules from 0, steps from 1.
-pub data Fault : Type 0 where
-  absent : Fault
-  -- the fetch of file k
-  fetch : ℕ → Fault
-  -- the fill, at module m
-  fill : ℕ → Fault
-  -- the store of step k, at module m
-  step : ℕ → ℕ → Fault
-  -- the read at the end, at module m
-  read : ℕ → Fault
-  -- the store of step k at module m, and then the read at module n
-  step_and_read : ℕ → ℕ → ℕ → Fault
 
 pub record Answer : Type 0 where
   pub status : Status
@@ -69,21 +56,6 @@ pub record FetchFails (names contents : List (List ℕ)) (before after : FilesSe
   pub count : after.fetches ≡ fetched k before.fetches
   pub name : IfSome before.told (λ _. after.last_failed ≡ slice_get names (k - 1))
   pub read : AreRead before.told names contents (k - 1)
-
--- one refusal after another
-pub record RefusesTwice (before after : BankSeen) (m n : ℕ) : Type 0 where
-  pub between : BankSeen
-  pub first : Refuses store_refused before between m
-  pub second : Refuses read_refused between after n
-
--- what the bank shows of a fault
-abbrev pub ShownByBank : BankSeen → BankSeen → Fault → Type 0
-ShownByBank before after absent = after.refused ≡ before.refused
-ShownByBank before after (fetch k) = after ≡ before
-ShownByBank before after (fill m) = Refuses fill_refused before after m
-ShownByBank before after (step k m) = Refuses store_refused before after m
-ShownByBank before after (read m) = Refuses read_refused before after m
-ShownByBank before after (step_and_read k m n) = RefusesTwice before after m n
 
 -- what the files show of a fault, where so many are fetched if no fetch fails
 abbrev pub ShownByFiles : List (List ℕ) → List (List ℕ) → ℕ → FilesSeen → FilesSeen → Fault → Type 0

@@ -7,7 +7,6 @@ mod converting;
 mod fetching;
 mod forms;
 mod opening;
-mod reading;
 mod run;
 mod running;
 mod status;

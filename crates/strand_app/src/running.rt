@@ -5,7 +5,6 @@ ghost use Rattle.strand_rules.specs.Bank.{Keeps};
 
 use crate::Made;
 use crate::answers::{fill_fault, read_fault, report};
-use crate::reading::{ReadFault, read_words};
 use crate::stepping::make_steps;
 use std::alloc::Global;
 use strand_base::OutOfMemory;
@@ -13,6 +12,7 @@ use strand_image::Image;
 use strand_inputs::Step;
 use strand_report::StepFault;
 use strand_rules::{AtModule, ModuleBank, PlainMachine};
+use strand_run::{ReadFault, read_words};
 
 /// Fills the bank with the image's persistent words, makes the steps, reads the bank and makes the
 /// report.

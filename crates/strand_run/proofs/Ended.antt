@@ -32,13 +32,13 @@ unfolding persistent_image
 image_length p s = length-map-range_with_len _ 0 (length p.persistent)
 
 -- the words that were read are those of the image, where the bank told its words
-held_is : (told now : Option (List ℕ)) (image words : List ℕ) (count : ℕ) → length image ≡ count → now ≡ front_written image told → IfSome now (λ all. words ≡ take count all) → OnSome told (words ≡ image)
+pub held_is : (told now : Option (List ℕ)) (image words : List ℕ) (count : ℕ) → length image ≡ count → now ≡ front_written image told → IfSome now (λ all. words ≡ take count all) → OnSome told (words ≡ image)
 held_is None now image words count long e is = tt
 held_is (Some ws) now image words count long e is =
     subst (λ (t : Option (List ℕ)). IfSome t (λ all. words ≡ take count all)) e is ∙ ap (λ (n : ℕ). take n (image ++ drop (length image) ws)) (sym long) ∙ take-append_seam image (drop (length image) ws)
 
 -- calls that were accepted after a refusal
-refuses_before : (count : Refusals → Refusals) (a b c : BankSeen) (k : ℕ) → Keeps b c → c.refused ≡ b.refused → Refuses count a b k → Refuses count a c k
+pub refuses_before : (count : Refusals → Refusals) (a b c : BankSeen) (k : ℕ) → Keeps b c → c.refused ≡ b.refused → Refuses count a b k → Refuses count a c k
 refuses_before count a b c k kept same refuses =
     record { exists = refuses.exists; counted = same ∙ refuses.counted; rose = omega (arith, refuses.rose, kept.later k) }
 
