@@ -1,4 +1,5 @@
-ghost use Rattle.std.specs.Prelude.{◌≡◌, ◌<◌, ◌≤◌, ◌+◌, None, vec_len, OnOk, IsErrOf};
+ghost use Rattle.std.specs.Prelude.{◌≡◌, ◌<◌, ◌≤◌, ◌+◌, None, [], vec_len, OnOk, IsErrOf};
+ghost use Rattle.std.specs.Io.KnownBytes.{Consumes, IsAtEnd};
 ghost use Rattle.strand_base.specs.FilesSeen.{OnStopped};
 
 use crate::{FetchFault, Files};
@@ -57,7 +58,7 @@ fn read_file<R: rt::Files>(
     limit: usize,
     into: &mut Vec<u8>,
 ) -> Result<(), FetchFault>
-    requires empty { vec_len into.old ≡ 0 }
+    requires empty { into.old.items ≡ [] }
     requires limit { limit < usize.MAX }
     ensures whole { OnOk result (vec_len into.new ≤ limit) }
     ensures long { IsErrOf result FetchFault.TooLong → vec_len into.new ≡ limit + 1 }
@@ -69,10 +70,15 @@ fn read_file<R: rt::Files>(
     }
 }
 
-// Reads to the end, or one byte past the limit. Each turn takes at least one byte.
+// Reads to the end, or one byte past the limit. Each turn takes at least one byte. What stands in
+// `into` is what was read, where the reader tells it.
 fn read_up_to<R: Read>(from: &mut R, limit: usize, into: &mut Vec<u8>) -> Result<(), FetchFault>
-    requires empty { vec_len into.old ≡ 0 }
+    requires empty { into.old.items ≡ [] }
     requires limit { limit < usize.MAX }
+    ensures bytes { OnOk result (Consumes (R.remaining from.old) (R.remaining from.new) into.new.items) }
+    ensures end { OnOk result (IsAtEnd (R.remaining from.new)) }
+    ensures front { IsErrOf result FetchFault.TooLong
+        → Consumes (R.remaining from.old) (R.remaining from.new) into.new.items }
     ensures whole { OnOk result (vec_len into.new ≤ limit) }
     ensures long { IsErrOf result FetchFault.TooLong → vec_len into.new ≡ limit + 1 }
     ensures stopped { OnStopped result (vec_len into.new ≤ limit) }

@@ -39,9 +39,10 @@ fn numbers_are_printed(rt: HostRuntime) {
     print_decimal(u64::MAX, &mut text).expect(&rt, "memory is left");
     put(&mut text, b" ").expect(&rt, "memory is left");
     print_hex16(0x01ab_cdef, &mut text).expect(&rt, "memory is left");
+    print_hex16(0, &mut text).expect(&rt, "memory is left");
     assert_eq!(rt;
         text.as_slice(),
-        b"one two three\n0 18446744073709551615 0000000001abcdef".as_slice()
+        b"one two three\n0 18446744073709551615 0000000001abcdef0000000000000000".as_slice()
     );
 }
 
