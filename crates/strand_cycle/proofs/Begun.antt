@@ -13,8 +13,8 @@ use Rattle.strand_events.specs.Trace.{passes, is_persist, is_new_strand, core_at
 use Rattle.strand_events.specs.Order.{Set}
 use Rattle.strand_events.proofs.Prefix.{core_kept, number_kept}
 use Rattle.strand_cycle.specs.Cycle.{is_item}
-use Rattle.strand_cycle.specs.Parts.{rank}
 use Rattle.strand_cycle.proofs.Growing.{new_or_old, was, rank_kept, items_kept}
+use Rattle.strand_cycle.proofs.Ranks.{rank}
 
 -- persist p was dispatched
 pub record Taken (mode : Mode) (t : List Event) (dispatched : ℕ → ℕ) (p : ℕ) : Type 0 where

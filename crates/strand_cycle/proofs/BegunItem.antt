@@ -9,10 +9,9 @@ use Rattle.strand_events.specs.Trace.{is_persist, is_new_strand, core_at, event_
 use Rattle.strand_events.specs.Order.{held}
 use Rattle.strand_rules.specs.declared.turn.Turn.TheVariants.{Done}
 use Rattle.strand_cycle.specs.Cycle.{State, is_item, gone, front, is_accepted, buffer_of, item_turn}
-use Rattle.strand_cycle.specs.Parts.{rank}
 use Rattle.strand_cycle.proofs.Keeping.{within}
 use Rattle.strand_cycle.proofs.MarkSets.{number_set, number_other}
-use Rattle.strand_cycle.proofs.Ranks.{persist_ranks, same_rank}
+use Rattle.strand_cycle.proofs.Ranks.{rank, persist_ranks, same_rank}
 use Rattle.strand_cycle.proofs.Dispatching.{found}
 use Rattle.strand_cycle.proofs.Turns.{then_so}
 use Rattle.strand_cycle.proofs.PartsKept.{rank_accepted}

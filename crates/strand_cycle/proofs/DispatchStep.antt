@@ -9,9 +9,9 @@ use Rattle.strand_base.proofs.Counting.{list_get, count_strict, at_or_below}
 use Rattle.strand_events.specs.Trace.{is_persist, core_at, event_is, core_event_is}
 use Rattle.strand_events.specs.Order.{Set}
 use Rattle.strand_cycle.specs.Cycle.{is_item, items}
-use Rattle.strand_cycle.specs.Parts.{Accepted, rank}
+use Rattle.strand_cycle.specs.Parts.{Accepted}
 use Rattle.strand_cycle.proofs.Ordered.{Ordered}
-use Rattle.strand_cycle.proofs.Ranks.{persist_ranks, same_rank}
+use Rattle.strand_cycle.proofs.Ranks.{rank, persist_ranks, same_rank}
 
 -- the first item of a queue isn't among the accepted persists
 pub not_yet : (mode : Mode) (t : List Event) (dispatched : ℕ → ℕ) (buffered : Set) (flight : List ℕ) (durable : Set) → Ordered mode t dispatched buffered flight durable → (core k : ℕ) → slice_get (items mode t core) (dispatched core) ≡ Some k → Accepted buffered flight durable k → ⊥

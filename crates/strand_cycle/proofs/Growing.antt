@@ -11,7 +11,8 @@ use Rattle.strand_base.proofs.Counting.{get_last, count_agree, count_mono, at_or
 use Rattle.strand_events.proofs.Prefix.{event_is_kept, core_kept, word_kept, core_event_kept, strand_kept, epoch_kept, directly_kept}
 use Rattle.strand_events.proofs.Epochs.{epochs_rise, strand_flip, direct_parts, conflict_word, core_linked, between_parts, between_from}
 use Rattle.strand_events.proofs.Chain.{AllDurableTo, Linked}
-use Rattle.strand_cycle.specs.Parts.{Accepted, Older, Lower, rank}
+use Rattle.strand_cycle.specs.Parts.{Accepted, Older, Lower}
+use Rattle.strand_cycle.proofs.Ranks.{rank}
 use Rattle.strand_cycle.proofs.Keeping.{within as event_within}
 use Rattle.strand_cycle.proofs.Next.{core_new}
 use Rattle.strand_cycle.proofs.Ordered.{Ordered}

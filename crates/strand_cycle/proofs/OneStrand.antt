@@ -12,7 +12,8 @@ use Rattle.strand_events.specs.Trace.{is_persist, is_barrier, is_new_strand, cor
 use Rattle.strand_events.specs.Order.{held}
 use Rattle.strand_events.proofs.Epochs.{weaker}
 use Rattle.strand_cycle.specs.Cycle.{State, is_item, gone, buffer_of}
-use Rattle.strand_cycle.specs.Parts.{rank, IsOpen, FitBuffers}
+use Rattle.strand_cycle.specs.Parts.{IsOpen, FitBuffers}
+use Rattle.strand_cycle.proofs.Ranks.{rank}
 use Rattle.strand_cycle.proofs.PartsKept.{accepted_rank}
 use Rattle.strand_cycle.proofs.Begun.{Begins}
 use Rattle.strand_cycle.proofs.Fits.{IsFit}

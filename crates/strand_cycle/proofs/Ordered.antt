@@ -9,7 +9,8 @@ use Rattle.strand_events.specs.Trace.{is_persist, core_at, word_at, event_is, co
 use Rattle.strand_events.specs.Order.{Set, directly_before, is_joined, IsDownwardClosed}
 use Rattle.strand_events.proofs.Chain.{Linked, settled_before}
 use Rattle.strand_cycle.specs.Cycle.{is_item}
-use Rattle.strand_cycle.specs.Parts.{Accepted, Sent, rank, Older, Lower}
+use Rattle.strand_cycle.specs.Parts.{Accepted, Sent, Older, Lower}
+use Rattle.strand_cycle.proofs.Ranks.{rank}
 
 pub record Ordered (mode : Mode) (t : List Event) (dispatched : ℕ → ℕ) (buffered : Set) (flight : List ℕ) (durable : Set) : Type 0 where
   -- what direct order of two accesses means for the persists up to the first

@@ -7,8 +7,8 @@ use Rattle.strand_events.specs.Trace.{is_persist, core_at, event_is, core_event_
 use Rattle.strand_events.specs.Order.{held}
 use Rattle.strand_events.proofs.Chain.{settled_before}
 use Rattle.strand_cycle.specs.Cycle.{State, is_item, gone, is_dispatched, is_accepted}
-use Rattle.strand_cycle.specs.Parts.{rank, AreParts, AreInOrder, AreSettled}
-use Rattle.strand_cycle.proofs.Ranks.{persist_ranks}
+use Rattle.strand_cycle.specs.Parts.{AreParts, AreInOrder, AreSettled}
+use Rattle.strand_cycle.proofs.Ranks.{rank, persist_ranks}
 use Rattle.strand_cycle.proofs.Good.{IsGood}
 
 -- p is a persist whose rank is below the number of its core's items that were dispatched

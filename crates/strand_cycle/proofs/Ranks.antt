@@ -9,8 +9,11 @@ use Rattle.strand_base.proofs.Counting.{count_mono, count_strict}
 use Rattle.strand_events.specs.Trace.{is_persist, core_at, event_is, core_event_is}
 use Rattle.strand_events.proofs.Epochs.{weaker}
 use Rattle.strand_cycle.specs.Cycle.{is_item}
-use Rattle.strand_cycle.specs.Parts.{rank}
 use Rattle.strand_cycle.proofs.Dispatching.{persist_item}
+
+-- how many items of its core come before event p
+abbrev pub rank : Mode → List Event → ℕ → ℕ
+rank mode t p = count_below p (core_event_is (is_item mode) (core_at t p) t)
 
 pub persist_ranks : (mode : Mode) (t : List Event) (p : ℕ) → event_is is_persist t p ≡ true → core_event_is (is_item mode) (core_at t p) t p ≡ true
 persist_ranks mode t p h = and_from (event_is (is_item mode) t p) (core_at t p == core_at t p) (weaker is_persist (is_item mode) (persist_item mode) t p h) (eq-eqb (core_at t p) (core_at t p) refl)

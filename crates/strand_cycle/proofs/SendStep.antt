@@ -9,9 +9,9 @@ use Rattle.strand_base.proofs.Counting.{get_more, get_last, at_or_below}
 use Rattle.strand_events.specs.Trace.{core_at}
 use Rattle.strand_events.specs.Order.{Set}
 use Rattle.strand_events.proofs.Epochs.{strand_parts}
-use Rattle.strand_cycle.specs.Parts.{Accepted, Sent, InFlight, Older, Lower, rank}
+use Rattle.strand_cycle.specs.Parts.{Accepted, Sent, InFlight, Older, Lower}
 use Rattle.strand_cycle.proofs.Ordered.{Ordered}
-use Rattle.strand_cycle.proofs.Ranks.{rank_earlier}
+use Rattle.strand_cycle.proofs.Ranks.{rank, rank_earlier}
 use Rattle.strand_cycle.proofs.Sets.{without, without_old, without_other}
 
 module _ (mode : Mode) (t : List Event) (dispatched : ℕ → ℕ) (buffered : Set) (flight : List ℕ) (durable : Set) (kept : Ordered mode t dispatched buffered flight durable) where

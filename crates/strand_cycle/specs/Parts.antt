@@ -2,11 +2,10 @@
 use Rattle.std.specs.Prelude.{◌≡◌, ℕ, ◌<◌, ◌≤◌, ◌⊎◌, ◌↔◌, true, false, List, slice_get, Some, length}
 use Rattle.strand_inputs.specs.declared.mode.Mode.{Mode}
 use Rattle.strand_inputs.specs.Settings.{Settings}
-use Rattle.strand_base.specs.Counting.{count_below}
 use Rattle.strand_events.specs.declared.event.Event.{Event}
-use Rattle.strand_events.specs.Trace.{is_persist, core_at, word_at, event_is, core_event_is, strand_number, same_strand, epoch}
+use Rattle.strand_events.specs.Trace.{is_persist, core_at, word_at, event_is, strand_number, same_strand, epoch}
 use Rattle.strand_events.specs.Order.{Set, held, Before}
-use Rattle.strand_cycle.specs.Cycle.{State, is_item, is_accepted, ring_use, buffer_of}
+use Rattle.strand_cycle.specs.Cycle.{State, is_accepted, ring_use, buffer_of}
 
 -- event p is a request in flight
 abbrev pub InFlight : List ℕ → ℕ → Type 0
@@ -25,10 +24,6 @@ pub record AreApart (buffered : Set) (flight : List ℕ) (durable : Set) : Type 
   pub one_place : (i h p : ℕ) → slice_get flight i ≡ Some p → slice_get flight h ≡ Some p → i ≡ h
   pub not_both : (p : ℕ) → buffered p ≡ true → Sent flight durable p → ⊥
   pub not_done : (p : ℕ) → InFlight flight p → durable p ≡ true → ⊥
-
--- how many items of its core come before event p
-abbrev pub rank : Mode → List Event → ℕ → ℕ
-rank mode t p = count_below p (core_event_is (is_item mode) (core_at t p) t)
 
 -- p is an earlier persist of q's strand with q's word
 pub record Older (mode : Mode) (t : List Event) (p q : ℕ) : Type 0 where
