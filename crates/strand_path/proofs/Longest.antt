@@ -1,11 +1,10 @@
 -- A checked path has a chain of persist order, and no chain is longer.
-use Rattle.std.proofs.Common.{◌≡◌, ℕ, zero, suc, ◌+◌, ◌<◌, ◌≤◌, true, false, inl, inr, List, [], ◌∷◌, length, map, refl, sym, ap, ◌∙◌, arith, subst, cond}
-use Rattle.std.specs.Prelude.{slice_index, nat_lt, nat_le, max}
-use Rattle.std.proofs.lemmas.Bool.{cases_eq, cases_Bool, ltb-true, false≢true, both_ways}
+use Rattle.std.proofs.Common.{◌≡◌, ℕ, zero, suc, ◌+◌, ◌<◌, ◌≤◌, true, false, inl, inr, List, [], ◌∷◌, length, refl, sym, ap, ◌∙◌, arith, subst}
+use Rattle.std.specs.Prelude.{slice_index, nat_lt, nat_le}
+use Rattle.std.proofs.lemmas.Bool.{cases_eq, cases_Bool, ltb-true}
 use Rattle.std.proofs.lemmas.Bool.Decides.{nat_tests}
 use Rattle.std.proofs.lemmas.Option.{get_or_from_slice_get}
 use Rattle.strand_inputs.specs.declared.mode.Mode.{Mode}
-use Rattle.strand_base.specs.Counting.{count_below}
 use Rattle.strand_base.proofs.Counting.{list_get, at_or_below}
 use Rattle.strand_events.specs.declared.event.Event.{Event}
 use Rattle.strand_events.specs.Trace.{is_persist, is_access, event_is, persists_of}
@@ -15,7 +14,7 @@ use Rattle.strand_order.proofs.GraphSound.{path_before}
 use Rattle.strand_order.proofs.GraphComplete.{before_path, then_edge}
 use Rattle.strand_order.proofs.Listed.{list_has}
 use Rattle.strand_path.specs.Chains.{IsChain, events_of}
-use Rattle.strand_path.specs.Checked.{IsRoute, number_of, numbers_on, goes_up, AreLevels, greatest_below}
+use Rattle.strand_path.specs.Checked.{IsRoute, number_of, numbers_on, AreLevels, greatest_below}
 use Rattle.strand_path.proofs.Ends.{event_within}
 
 -- no level is above the greatest

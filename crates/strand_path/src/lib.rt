@@ -6,3 +6,6 @@ mod path;
 
 pub use checking::check_path;
 pub use path::Path;
+
+#[cfg(test)]
+mod tests;
