@@ -1,5 +1,5 @@
 -- Levels are the lengths of longest chains, and picked members are the chosen chain.
-use Rattle.std.proofs.Common.{◌≡◌, ℕ, zero, suc, ◌+◌, ◌-◌, ◌<◌, ◌≤◌, true, List, [], ◌∷◌, ◌++◌, length, map, refl, sym, ap, ◌∙◌, arith, subst}
+use Rattle.std.proofs.Common.{◌≡◌, ℕ, zero, suc, ◌+◌, ◌-◌, ◌<◌, ◌≤◌, true, List, [], ◌∷◌, ◌++◌, length, map, refl, ap, ◌∙◌, arith, subst}
 use Rattle.std.specs.Prelude.{slice_index}
 use Rattle.std.proofs.lemmas.List.{length-append}
 use Rattle.strand_inputs.specs.declared.mode.Mode.{Mode}
@@ -9,7 +9,7 @@ use Rattle.strand_events.specs.Order.{Before}
 use Rattle.strand_order.proofs.GraphSound.{path_before}
 use Rattle.strand_order.proofs.GraphComplete.{before_path}
 use Rattle.strand_path.specs.Chains.{IsChain, events_of}
-use Rattle.strand_path.specs.Checked.{AreLevels, number_of, greatest_below}
+use Rattle.strand_path.specs.Checked.{AreLevels, number_of}
 use Rattle.strand_path.specs.Chosen.{IsLevel, IsChosen}
 use Rattle.strand_path.specs.Building.{AreSupported}
 use Rattle.strand_path.specs.Picking.{ArePicked}

@@ -1,13 +1,13 @@
 -- One pass backwards over the edges gives the ways to an event.
-use Rattle.std.proofs.Common.{◌≡◌, ℕ, zero, suc, ◌+◌, ◌-◌, ◌<◌, ◌≤◌, Bool, true, false, ◌⊎◌, inl, inr, List, [], ◌∷◌, length, replicate, Some, refl, sym, ap, ◌∙◌, arith, subst, cond}
-use Rattle.std.specs.Prelude.{slice_get, slice_index, slice_set, nat_lt, ◌||◌, ◌==◌}
-use Rattle.std.proofs.lemmas.Bool.{cases_eq, cases_lt, cases_Bool, lt-ltb, ltb-true, both_ways, or_cases, or_left, or_right, eqb-true, eq-eqb}
+use Rattle.std.proofs.Common.{◌≡◌, ℕ, suc, ◌<◌, ◌≤◌, true, false, inl, inr, List, [], ◌∷◌, length, Some, refl, sym, ap, ◌∙◌, arith, subst, cond}
+use Rattle.std.specs.Prelude.{slice_get, slice_index, slice_set, nat_lt, ◌==◌}
+use Rattle.std.proofs.lemmas.Bool.{cases_eq, cases_lt, cases_Bool, lt-ltb, ltb-true, both_ways, or_cases, or_left, or_right, eq-eqb}
 use Rattle.std.proofs.lemmas.List.{get_or-set_other, get_or-set_same, length-set, get_or_past}
 use Rattle.std.proofs.lemmas.Option.{slice_get_within}
 use Rattle.strand_inputs.specs.declared.mode.Mode.{Mode}
 use Rattle.strand_events.specs.declared.event.Event.{Event}
 use Rattle.strand_order.specs.declared.edge.Edge.{Edge}
-use Rattle.strand_order.specs.Graph.{is_edge, Path, LeadsTo}
+use Rattle.strand_order.specs.Graph.{is_edge, Path}
 use Rattle.strand_order.specs.Edges.{edges_of, edge_from}
 use Rattle.strand_order.proofs.Listed.{listed_edge, edge_listed, listed_in_order}
 use Rattle.strand_order.proofs.GraphSound.{edge_less}

@@ -1,15 +1,15 @@
 -- The members of the chosen chain, one by one.
-use Rattle.std.proofs.Common.{◌≡◌, ℕ, zero, suc, ◌+◌, ◌-◌, ◌<◌, ◌≤◌, Bool, true, false, inl, inr, List, [], ◌∷◌, length, refl, sym, ap, ◌∙◌, arith, subst}
-use Rattle.std.specs.Prelude.{slice_index, slice_set, nat_lt, ◌&&◌, ◌||◌, ◌==◌, max}
+use Rattle.std.proofs.Common.{◌≡◌, ℕ, zero, suc, ◌+◌, ◌<◌, ◌≤◌, Bool, true, inl, inr, List, [], ◌∷◌, length, refl, sym, ap, ◌∙◌, arith, subst}
+use Rattle.std.specs.Prelude.{slice_index, slice_set, ◌==◌, max}
 use Rattle.std.proofs.lemmas.Bool.{cases_eq, cases_lt, cases_Bool, and_parts, and_from, or_cases, eqb-true, eq-eqb, both_ways}
 use Rattle.std.proofs.lemmas.List.{get_or-set_other, get_or-set_same, length-set}
 use Rattle.strand_inputs.specs.declared.mode.Mode.{Mode}
 use Rattle.strand_events.specs.declared.event.Event.{Event}
 use Rattle.strand_events.specs.Trace.{is_persist, event_is}
-use Rattle.strand_order.specs.Graph.{is_edge, Path, LeadsTo}
+use Rattle.strand_order.specs.Graph.{is_edge, LeadsTo}
 use Rattle.strand_order.proofs.GraphSound.{edge_less}
 use Rattle.strand_path.specs.Checked.{greatest_below}
-use Rattle.strand_path.specs.Building.{leads_on, is_on, AreWays, Support}
+use Rattle.strand_path.specs.Building.{leads_on, AreWays, Support}
 use Rattle.strand_path.specs.Picking.{is_of_level, is_on_way, IsFirst, IsSome, IsPick, ArePicked}
 use Rattle.strand_path.proofs.Ends.{event_within}
 use Rattle.strand_path.proofs.Onto.{on_within}

@@ -1,20 +1,20 @@
 -- One pass over the edges gives the levels.
-use Rattle.std.proofs.Common.{◌≡◌, ℕ, zero, suc, ◌+◌, ◌<◌, ◌≤◌, Bool, true, false, ◌⊎◌, inl, inr, List, [], ◌∷◌, length, Some, refl, sym, ap, ◌∙◌, arith, subst, cond}
-use Rattle.std.specs.Prelude.{slice_get, slice_index, slice_set, nat_lt, nat_le, max}
-use Rattle.std.proofs.lemmas.Bool.{cases_eq, cases_lt, cases_Bool, lt-ltb, both_ways}
+use Rattle.std.proofs.Common.{◌≡◌, ℕ, suc, ◌+◌, ◌<◌, ◌≤◌, true, ◌⊎◌, inl, inr, List, [], length, Some, refl, sym, ◌∙◌, arith, subst}
+use Rattle.std.specs.Prelude.{slice_get, slice_index, nat_lt, nat_le, max}
+use Rattle.std.proofs.lemmas.Bool.{cases_eq, cases_lt, cases_Bool}
 use Rattle.std.proofs.lemmas.Bool.Decides.{nat_tests}
 use Rattle.std.proofs.lemmas.List.{get_or-set_other, get_or-set_same, length-set, get_or_past}
 use Rattle.strand_inputs.specs.declared.mode.Mode.{Mode}
 use Rattle.strand_events.specs.declared.event.Event.{Event}
 use Rattle.strand_events.specs.Trace.{is_persist, event_is}
 use Rattle.strand_order.specs.declared.edge.Edge.{Edge}
-use Rattle.strand_order.specs.Graph.{is_edge, Path, LeadsTo}
+use Rattle.strand_order.specs.Graph.{is_edge, LeadsTo}
 use Rattle.strand_order.specs.Edges.{edges_of}
 use Rattle.strand_order.proofs.Listed.{listed_edge, listed_in_order}
 use Rattle.strand_order.proofs.GraphSound.{edge_less, path_less}
 use Rattle.strand_order.proofs.GraphComplete.{then_edge}
 use Rattle.strand_path.specs.Checked.{goes_up, AreLevels}
-use Rattle.strand_path.specs.Building.{own_level, AreOwn, raised, Support, AreSupported}
+use Rattle.strand_path.specs.Building.{own_level, AreOwn, raised, AreSupported}
 use Rattle.strand_path.proofs.Ends.{event_within}
 use Rattle.strand_path.proofs.Edged.{one_more, all_rise, ends_within}
 

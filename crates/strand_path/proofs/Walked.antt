@@ -1,7 +1,7 @@
 -- Walking from one member of a chain to the next.
-use Rattle.std.proofs.Common.{◌≡◌, ℕ, zero, suc, ◌+◌, ◌-◌, ◌<◌, ◌≤◌, Bool, true, false, ◌⊎◌, inl, inr, List, [], ◌∷◌, ◌++◌, length, map, take, refl, sym, ap, ◌∙◌, arith, subst, append_assoc, cond}
-use Rattle.std.specs.Prelude.{slice_index, ◌||◌, ◌==◌}
-use Rattle.std.proofs.lemmas.Bool.{cases_eq, cases_lt, cases_Bool, or_cases, or_left, or_right, eqb-true, eq-eqb, both_ways}
+use Rattle.std.proofs.Common.{◌≡◌, ℕ, zero, suc, ◌+◌, ◌-◌, ◌<◌, ◌≤◌, true, ◌⊎◌, inl, inr, List, [], ◌∷◌, ◌++◌, length, map, take, refl, sym, ap, ◌∙◌, arith, subst, append_assoc}
+use Rattle.std.specs.Prelude.{slice_index, ◌==◌}
+use Rattle.std.proofs.lemmas.Bool.{cases_Bool, or_cases, or_right, eqb-true}
 use Rattle.std.proofs.lemmas.List.{map-append, take_more}
 use Rattle.strand_inputs.specs.declared.mode.Mode.{Mode}
 use Rattle.strand_events.specs.declared.event.Event.{Event}
@@ -12,8 +12,7 @@ use Rattle.strand_order.proofs.GraphComplete.{path_more}
 use Rattle.strand_path.specs.Checked.{IsRoute, number_of, numbers_on, AreLevels}
 use Rattle.strand_path.specs.Building.{leads_on, is_on, AreWays}
 use Rattle.strand_path.specs.Picking.{IsWalked}
-use Rattle.strand_path.proofs.Ends.{edge_within, event_within}
-use Rattle.strand_path.proofs.Onto.{on_within}
+use Rattle.strand_path.proofs.Ends.{edge_within}
 use Rattle.strand_path.proofs.Bounds.{path_lt, up_le}
 use Rattle.strand_path.proofs.Picked.{way_path}
 

@@ -66,3 +66,41 @@ fn a_path_is_checked(rt: HostRuntime) -> Result<(), Fail> {
     }
     Ok(())
 }
+
+fn is(list: &Numbers, numbers: &[u32]) -> bool {
+    list.as_slice() == numbers
+}
+
+#[test]
+fn the_chosen_chain_of_the_three_modes(rt: HostRuntime) -> Result<(), Fail> {
+    let mut trace = Trace::new(rt.alloc(), 7).ok().ok_or("memory")?;
+    trace.push(store(0));
+    trace.push(Event::Barrier { core: 0 });
+    trace.push(store(1));
+    trace.push(Event::NewStrand { core: 0 });
+    trace.push(store(2));
+    trace.push(Event::Load {
+        core: 1,
+        word: 0x4000_0008,
+    });
+    trace.push(Event::Barrier { core: 1 });
+    let table: [(Mode, &[u32], &[u32]); 3] = [
+        (Mode::Strict, &[0, 1, 2], &[0, 2, 4]),
+        (Mode::Epoch, &[0, 1], &[0, 1, 2]),
+        (Mode::Strand, &[0, 1], &[0, 1, 2]),
+    ];
+    for (mode, chain, route) in &table {
+        let graph = build(rt.alloc(), &trace, *mode).ok().ok_or("memory")?;
+        let path = longest(rt.alloc(), &graph).ok().ok_or("memory")?;
+        assert!(rt; is(&path.chain, chain));
+        assert!(rt; is(&path.route, route));
+        assert!(rt; check_path(&graph, &path));
+    }
+    let empty = Trace::new(rt.alloc(), 0).ok().ok_or("memory")?;
+    let graph = build(rt.alloc(), &empty, Mode::Strand)
+        .ok()
+        .ok_or("memory")?;
+    let path = longest(rt.alloc(), &graph).ok().ok_or("memory")?;
+    assert!(rt; is(&path.chain, &[]));
+    Ok(())
+}

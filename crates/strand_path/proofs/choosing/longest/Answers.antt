@@ -1,5 +1,4 @@
-use Rattle.std.proofs.Common.{◌≡◌, ◌∙◌, List, ℕ, map, ap, sym, subst, arith}
-use Rattle.strand_events.specs.declared.event.Event.{Event}
+use Rattle.std.proofs.Common.{◌≡◌, ◌∙◌, map, ap, sym, subst, arith}
 use Rattle.strand_path.specs.Chains.{events_of}
 use Rattle.strand_path.specs.Checked.{number_of}
 use Rattle.strand_path.specs.Chosen.{IsChosen}

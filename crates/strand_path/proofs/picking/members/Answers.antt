@@ -1,10 +1,9 @@
-use Rattle.std.proofs.Common.{◌≡◌, ◌-◌, ◌<◌, ◌≤◌, ◌∙◌, List, ℕ, suc, length, replicate, subst, sym, ap, arith}
-use Rattle.std.specs.Prelude.{slice_index, slice_set}
-use Rattle.std.proofs.lemmas.List.{length-replicate, length-set, get_or_read}
+use Rattle.std.proofs.Common.{◌≡◌, ◌-◌, ◌∙◌, suc, length, subst, sym, ap, arith}
+use Rattle.std.specs.Prelude.{slice_index}
+use Rattle.std.proofs.lemmas.List.{length-set, get_or_read}
 use Rattle.strand_events.specs.Trace.{event_is, is_persist}
-use Rattle.strand_path.specs.Checked.{greatest_below}
-use Rattle.strand_path.specs.Picking.{is_of_level, IsFirst, IsSome, IsPick, ArePicked}
-use Rattle.strand_path.proofs.Picked.{greatest_some, picked_none, picked_last, picked_more}
+use Rattle.strand_path.specs.Picking.{is_of_level, IsSome, IsPick, ArePicked}
+use Rattle.strand_path.proofs.Picked.{greatest_some, picked_more}
 use Rattle.strand_path.proofs.picking.members.Goals as goal
 
 pub first_of-requires-clause-some_ : goal.first_of-requires-clause-some_

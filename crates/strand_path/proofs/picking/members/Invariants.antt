@@ -1,4 +1,4 @@
-use Rattle.std.proofs.Common.{◌≡◌, ◌<◌, length}
+use Rattle.std.proofs.Common.{◌<◌, length}
 use Rattle.strand_path.specs.Picking.{ArePicked}
 use Rattle.strand_path.proofs.picking.members.Given as goal
 

@@ -1,6 +1,4 @@
-use Rattle.std.proofs.Common.{◌≡◌, List, ℕ, length, subst, sym, arith}
-use Rattle.strand_events.specs.declared.event.Event.{Event}
-use Rattle.strand_path.specs.Building.{AreWays}
+use Rattle.std.proofs.Common.{length, subst, sym, arith}
 use Rattle.strand_path.specs.Picking.{is_on_way, IsFirst, IsSome}
 use Rattle.strand_path.proofs.Picked.{pick_some, pick_first}
 use Rattle.strand_path.proofs.picking.pick.Goals as goal

@@ -1,4 +1,3 @@
-use Rattle.std.proofs.Common.{◌-◌}
 use Rattle.strand_path.proofs.Walked.{IsRouteTo}
 use Rattle.strand_path.proofs.walking.route_of.Given as goal
 

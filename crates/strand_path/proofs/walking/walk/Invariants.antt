@@ -1,5 +1,4 @@
-use Rattle.std.proofs.Common.{◌≡◌, ◌-◌, ◌≤◌, true}
-use Rattle.strand_path.specs.Building.{is_on}
+use Rattle.std.proofs.Common.{◌-◌}
 use Rattle.strand_path.proofs.Walked.{IsOnWay}
 use Rattle.strand_path.proofs.walking.walk.Given as goal
 

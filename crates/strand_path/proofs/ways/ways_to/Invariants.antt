@@ -1,4 +1,4 @@
-use Rattle.std.proofs.Common.{◌≡◌, ◌≤◌, length}
+use Rattle.std.proofs.Common.{◌≤◌, length}
 use Rattle.strand_order.specs.Edges.{edges_of}
 use Rattle.strand_path.proofs.Onto.{LeadFrom}
 use Rattle.strand_path.proofs.ways.ways_to.Given as goal
