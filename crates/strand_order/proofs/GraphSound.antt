@@ -186,7 +186,7 @@ along : (mode : Mode) (t : List Event) (a : ℕ) (xs : List ℕ) (i j : ℕ) →
 along mode t a [] i j reach e = step_edge mode t a i j reach e
 along mode t a (x ∷ xs) i j reach p = along mode t a xs x j (step_edge mode t a i x reach p.0) p.1
 
-path_less : (mode : Mode) (t : List Event) (xs : List ℕ) (i j : ℕ) → Path mode t i xs j → i < j
+pub path_less : (mode : Mode) (t : List Event) (xs : List ℕ) (i j : ℕ) → Path mode t i xs j → i < j
 path_less mode t [] i j e = edge_less mode t i j e
 path_less mode t (x ∷ xs) i j p = omega (arith, edge_less mode t i x p.0, path_less mode t xs x j p.1)
 

@@ -1,6 +1,6 @@
 -- What the edges of the list say of a route and of levels.
-use Rattle.std.proofs.Common.{◌≡◌, ℕ, suc, ◌+◌, ◌<◌, ◌≤◌, Bool, true, false, inl, inr, List, length, Some, refl, sym, ap, ◌∙◌, arith, subst}
-use Rattle.std.specs.Prelude.{slice_get, slice_index, ◌&&◌, ◌==◌}
+use Rattle.std.proofs.Common.{◌≡◌, ℕ, ◌+◌, ◌<◌, ◌≤◌, Bool, true, false, inl, inr, List, length, Some, refl, sym, ap, ◌∙◌, arith, subst}
+use Rattle.std.specs.Prelude.{slice_get, ◌==◌}
 use Rattle.std.proofs.Math.ListN.{get_or}
 use Rattle.std.proofs.lemmas.Bool.{cases_eq, and_parts, and_from, eqb-true, eq-eqb, both_ways, false_from_ne_true}
 use Rattle.std.proofs.lemmas.Option.{slice_get-get_or, slice_get_within}
@@ -11,7 +11,7 @@ use Rattle.strand_order.specs.Graph.{is_edge}
 use Rattle.strand_order.specs.Edges.{edges_of, edge_from}
 use Rattle.strand_order.proofs.Listed.{listed_edge, edge_listed}
 use Rattle.strand_order.proofs.GraphSound.{edge_less}
-use Rattle.strand_path.specs.Checked.{is_from_to, goes_up, AreLevels}
+use Rattle.strand_path.specs.Checked.{is_from_to, goes_up}
 use Rattle.strand_path.proofs.Ends.{edge_within}
 
 module _ (mode : Mode) (t : List Event) where

@@ -1,4 +1,9 @@
 pub mod Ends
 pub mod Edged
 pub mod Along
-pub mod Longest
+pub mod Bounds
+pub mod Raised
+pub mod Onto
+pub mod Picked
+pub mod Walked
+pub mod Levelled

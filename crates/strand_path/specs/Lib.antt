@@ -1,2 +1,5 @@
 pub mod Chains
 pub mod Checked
+pub mod Chosen
+pub mod Building
+pub mod Picking

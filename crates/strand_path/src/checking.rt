@@ -18,7 +18,7 @@ fn is_persist(event: Event) -> bool
 }
 
 // Whether event k is a persist.
-fn is_persist_at(events: &[Event], k: usize) -> bool
+pub(crate) fn is_persist_at(events: &[Event], k: usize) -> bool
     requires { k < length events.now }
     ensures { result ≡ event_is is_persist events.now k }
 {
@@ -74,7 +74,7 @@ fn is_route(graph: &Graph, route: &[u32]) -> bool
 }
 
 // The number of a persist.
-fn number_of(events: &[Event], event: u32) -> u32
+pub(crate) fn number_of(events: &[Event], event: u32) -> u32
     requires { event ≤ length events.now }
     ensures { result ≡ number_of events.now event }
 {
@@ -157,7 +157,7 @@ fn are_levels(graph: &Graph, levels: &[u32]) -> bool
 }
 
 // The greatest level of the persists, or 0 where there is none.
-fn greatest(events: &[Event], levels: &[u32]) -> u32
+pub(crate) fn greatest(events: &[Event], levels: &[u32]) -> u32
     requires { length levels.now ≡ length events.now }
     ensures { result ≡ greatest_below events.now levels.now (length events.now) }
 {

@@ -2,7 +2,16 @@
 #![tactic(auto)]
 
 mod checking;
+mod choosing;
+mod levels;
 mod path;
+mod picking;
+mod walking;
+mod ways;
 
 pub use checking::check_path;
+pub use choosing::longest;
 pub use path::Path;
+
+#[cfg(test)]
+mod tests;

@@ -1,4 +1,4 @@
-use Rattle.std.proofs.Common.{◌≡◌, ◌≤◌, false, length, sym, ap, ◌∙◌, arith}
+use Rattle.std.proofs.Common.{◌≤◌, false, length, sym, ap, ◌∙◌, arith}
 use Rattle.strand_order.specs.Edges.{edges_of}
 use Rattle.strand_path.specs.Checked.{is_from_to}
 use Rattle.strand_path.proofs.Edged.{edge_at, one_more, found, not_found}

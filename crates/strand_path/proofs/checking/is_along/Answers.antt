@@ -1,6 +1,5 @@
-use Rattle.std.proofs.Common.{◌≡◌, ◌+◌, false, sym, ap, ◌∙◌, arith, subst}
-use Rattle.std.specs.Prelude.{slice_index}
-use Rattle.strand_path.specs.Checked.{number_of, has_at}
+use Rattle.std.proofs.Common.{◌+◌, sym, ap, ◌∙◌, arith, subst}
+use Rattle.strand_path.specs.Checked.{has_at}
 use Rattle.strand_path.proofs.Along.{along_same, along_more, along_stops, IsAlong}
 use Rattle.strand_path.proofs.checking.is_along.Goals as goal
 use Rattle.strand_path.proofs.checking.is_along.Goals.{then-is_persist_at+else-not-has_at, else-is_persist_at}

@@ -1,11 +1,10 @@
 -- A checked path has a chain of persist order, and no chain is longer.
-use Rattle.std.proofs.Common.{◌≡◌, ℕ, zero, suc, ◌+◌, ◌<◌, ◌≤◌, true, false, inl, inr, List, [], ◌∷◌, length, map, refl, sym, ap, ◌∙◌, arith, subst, cond}
-use Rattle.std.specs.Prelude.{slice_index, nat_lt, nat_le, max}
-use Rattle.std.proofs.lemmas.Bool.{cases_eq, cases_Bool, ltb-true, false≢true, both_ways}
+use Rattle.std.proofs.Common.{◌≡◌, ℕ, zero, suc, ◌+◌, ◌<◌, ◌≤◌, true, false, inl, inr, List, [], ◌∷◌, length, refl, sym, ap, ◌∙◌, arith, subst}
+use Rattle.std.specs.Prelude.{slice_index, nat_lt, nat_le}
+use Rattle.std.proofs.lemmas.Bool.{cases_eq, cases_Bool, ltb-true}
 use Rattle.std.proofs.lemmas.Bool.Decides.{nat_tests}
 use Rattle.std.proofs.lemmas.Option.{get_or_from_slice_get}
 use Rattle.strand_inputs.specs.declared.mode.Mode.{Mode}
-use Rattle.strand_base.specs.Counting.{count_below}
 use Rattle.strand_base.proofs.Counting.{list_get, at_or_below}
 use Rattle.strand_events.specs.declared.event.Event.{Event}
 use Rattle.strand_events.specs.Trace.{is_persist, is_access, event_is, persists_of}
@@ -15,11 +14,11 @@ use Rattle.strand_order.proofs.GraphSound.{path_before}
 use Rattle.strand_order.proofs.GraphComplete.{before_path, then_edge}
 use Rattle.strand_order.proofs.Listed.{list_has}
 use Rattle.strand_path.specs.Chains.{IsChain, events_of}
-use Rattle.strand_path.specs.Checked.{IsRoute, number_of, numbers_on, goes_up, AreLevels, greatest_below}
+use Rattle.strand_path.specs.Checked.{IsRoute, number_of, numbers_on, AreLevels, greatest_below}
 use Rattle.strand_path.proofs.Ends.{event_within}
 
 -- no level is above the greatest
-greatest_most : (t : List Event) (levels : List ℕ) (n p : ℕ) → p < n → event_is is_persist t p ≡ true → slice_index levels p ≤ greatest_below t levels n
+pub greatest_most : (t : List Event) (levels : List ℕ) (n p : ℕ) → p < n → event_is is_persist t p ≡ true → slice_index levels p ≤ greatest_below t levels n
 greatest_most t levels zero p lt is = absurd (omega arith)
 greatest_most t levels (suc n) p lt is = elim (cases_eq p n) [
   | inl e ↦
@@ -35,13 +34,13 @@ module _ (mode : Mode) (t : List Event) where
     up_lt : (i j : ℕ) → is_edge mode t i j ≡ true → event_is is_persist t j ≡ true → slice_index levels i < slice_index levels j
     up_lt i j e is = let up : nat_lt (slice_index levels i) (slice_index levels j) ≡ true = rw is at (a.rise i j e) in ltb-true (slice_index levels i) (slice_index levels j) up
 
-    up_le : (i j : ℕ) → is_edge mode t i j ≡ true → slice_index levels i ≤ slice_index levels j
+    pub up_le : (i j : ℕ) → is_edge mode t i j ≡ true → slice_index levels i ≤ slice_index levels j
     up_le i j e = elim (cases_Bool (event_is is_persist t j)) [
       | inl is ↦ omega (arith, up_lt i j e is)
       | inr none ↦ let up : nat_le (slice_index levels i) (slice_index levels j) ≡ true = rw none at (a.rise i j e) in grind (arith, nat_tests, up)
     ]
 
-    path_lt : (p : ℕ) (xs : List ℕ) (q : ℕ) → Path mode t p xs q → event_is is_persist t q ≡ true → slice_index levels p < slice_index levels q
+    pub path_lt : (p : ℕ) (xs : List ℕ) (q : ℕ) → Path mode t p xs q → event_is is_persist t q ≡ true → slice_index levels p < slice_index levels q
     path_lt p [] q e is = up_lt p q e is
     path_lt p (x ∷ xs) q e is = omega (arith, up_le p x e.0, path_lt x xs q e.1 is)
 
@@ -62,7 +61,7 @@ module _ (mode : Mode) (t : List Event) where
     none_longer (p ∷ q ∷ ps) c = omega (arith, chain_bound p (q ∷ ps) c, a.least p c.0)
 
   -- a persist's number names it
-  number_again : (x : ℕ) → event_is is_persist t x ≡ true → slice_index (persists_of t) (number_of t x) ≡ x
+  pub number_again : (x : ℕ) → event_is is_persist t x ≡ true → slice_index (persists_of t) (number_of t x) ≡ x
   number_again x is =
       let at = list_has (length t) (event_is is_persist t) x (event_within is_persist t x is) is in
       let number : number_of t x ≡ at.0 = (list_get (length t) (event_is is_persist t) at.0 x at.1).2 in
@@ -80,7 +79,7 @@ module _ (mode : Mode) (t : List Event) where
   first_edge : (x y : ℕ) (ys : List ℕ) → IsRoute mode t (x ∷ y ∷ ys) → is_edge mode t x y ≡ true
   first_edge x y ys r = r.joined 0 (omega arith)
 
-  access : (p : ℕ) → event_is is_persist t p ≡ true → event_is is_access t p ≡ true
+  pub access : (p : ℕ) → event_is is_persist t p ≡ true → event_is is_access t p ≡ true
   access p is = weaker is_persist is_access persist_access t p is
 
   -- from a persist that a path leads from to the route's first event

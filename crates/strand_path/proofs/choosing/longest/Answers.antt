@@ -1,0 +1,18 @@
+use Rattle.std.proofs.Common.{◌≡◌, ◌∙◌, map, ap, sym, subst, arith}
+use Rattle.strand_path.specs.Chains.{events_of}
+use Rattle.strand_path.specs.Checked.{number_of}
+use Rattle.strand_path.specs.Chosen.{IsChosen}
+use Rattle.strand_path.specs.Picking.{ArePicked}
+use Rattle.strand_path.proofs.Levelled.{picked_chosen, events_again}
+use Rattle.strand_path.proofs.choosing.longest.Goals as goal
+
+pub returns-clause-chosen : goal.returns-clause-chosen
+returns-clause-chosen c =
+    let mode = c.args.graph.now.mode in
+    let t = c.args.graph.now.events in
+    let levels = c.in_ok-levels.levels.items in
+    let members = c.in_ok-members.members.items in
+    let picked : ArePicked mode t levels members 0 = subst (λ xs. ArePicked mode t xs members 0) c.deref-2.ensures.value c.in_ok-members.ensures in
+    let numbers : c.in_ok-numbers_of.field-0 ≡ map (number_of t) members = c.in_ok-numbers_of.ensures ∙ ap (λ ev. map (number_of ev) c.deref-3.result.now) c.events-2.ensures.events ∙ ap (map (number_of t)) c.deref-3.ensures.value in
+    let same : events_of t c.in_ok-numbers_of.field-0 ≡ members = ap (events_of t) numbers ∙ events_again mode t members (λ k lt. picked.persist k (omega arith) lt) in
+    subst (λ xs. IsChosen mode t xs) (sym same) (picked_chosen mode t levels c.in_ok-levels.ensures.levels c.in_ok-levels.ensures.supported members picked)

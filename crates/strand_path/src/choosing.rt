@@ -1,0 +1,28 @@
+ghost use Rattle.std.specs.Prelude.{IfOk};
+ghost use Rattle.strand_path.specs.Chains.{events_of};
+ghost use Rattle.strand_path.specs.Checked.{IsChecked};
+ghost use Rattle.strand_path.specs.Chosen.{IsChosen};
+
+use crate::checking::greatest;
+use crate::levels::levels_of;
+use crate::path::Path;
+use crate::picking::members;
+use crate::walking::{copied, numbers_of, route_of};
+use std::alloc::Global;
+use strand_base::OutOfMemory;
+use strand_order::Graph;
+
+/// The chosen chain of a graph, with a route and levels that `check_path` accepts (docs/path.md).
+pub fn longest(alloc: Global, graph: &Graph) -> Result<Path, OutOfMemory>
+    ensures chosen { IfOk result (λ path. IsChosen graph.now.mode graph.now.events (events_of graph.now.events path.chain)) }
+    ensures checked { IfOk result (IsChecked graph.now.mode graph.now.events) }
+{
+    let levels = levels_of(alloc, graph)?;
+    let top = greatest(graph.events(), &levels);
+    let members = members(alloc, graph, &levels, top)?;
+    Ok(Path {
+        chain: numbers_of(alloc, graph.events(), &members)?,
+        route: route_of(alloc, graph, &levels, &members)?,
+        levels: copied(alloc, &levels)?,
+    })
+}
