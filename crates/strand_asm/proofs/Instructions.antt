@@ -27,6 +27,7 @@ use Rattle.strand_asm.proofs.Passes.{Says}
 
 pub record ReadsAs (text : List ℕ) (i : Instr) : Type 0 where
   pub pattern : Pattern
+  pub plain : IsText text
   pub says : Says text (bodies.Code pattern)
   pub size : size_of pattern ≡ 1
   pub codes : (labels : Table) (site : Site) → pattern_coded labels site pattern ≡ Ok (One i)
@@ -57,14 +58,22 @@ blank_text s p = rw p refl
 comma_text : (s : List ℕ) → IsText s → IsText (44 ∷ 32 ∷ s)
 comma_text s p = rw p refl
 
+two_text : (op : Mnemonic) (a b : List ℕ) → IsSolid a → IsSolid b → IsText (two (row op).word a b)
+two_text op a b pa pb =
+    text_append (one (row op).word a) (44 ∷ 32 ∷ b) (text_append (row op).word (32 ∷ a) (word_is_text op) (blank_text a (solid_text a pa.solid))) (comma_text b (solid_text b pb.solid))
+
+three_text : (op : Mnemonic) (a b c : List ℕ) → IsSolid a → IsSolid b → IsSolid c → IsText (three (row op).word a b c)
+three_text op a b c pa pb pc = text_append (two (row op).word a b) (44 ∷ 32 ∷ c) (two_text op a b pa pb) (comma_text c (solid_text c pc.solid))
+
 pub two_as : (op : Mnemonic) (a b : List ℕ) (x y : Operand) (i : Instr) → IsSolid a → IsSolid b → due_count (row op).form ≡ 2
     → operand_of (row op).form.first (32 ∷ a) ≡ Ok x → operand_of (row op).form.second (32 ∷ b) ≡ Ok y → operand_of (row op).form.third [] ≡ Ok operands.Absent
     → size_by (kind_of op) (pattern_of op x y operands.Absent) ≡ 1 → ((labels : Table) (site : Site) → coded labels site (kind_of op) x y operands.Absent ≡ Ok (One i))
     → ReadsAs (two (row op).word a b) i
 two_as op a b x y i pa pb due first second third size codes = record {
   pattern = pattern_of op x y operands.Absent;
+  plain = two_text op a b pa pb;
   says = line_reads (two (row op).word a b) _
-  (text_append (one (row op).word a) (44 ∷ 32 ∷ b) (text_append (row op).word (32 ∷ a) (word_is_text op) (blank_text a (solid_text a pa.solid))) (comma_text b (solid_text b pb.solid)))
+  (two_text op a b pa pb)
   (ap body_of (append_assoc (row op).word (32 ∷ a) (44 ∷ 32 ∷ b)) ∙ named op (a ++ 44 ∷ 32 ∷ b) ∙ two_operands op a b x y pa pb due first second third);
   size = size;
   codes = codes;
@@ -76,10 +85,9 @@ pub three_as : (op : Mnemonic) (a b c : List ℕ) (x y z : Operand) (i : Instr) 
     → ReadsAs (three (row op).word a b c) i
 three_as op a b c x y z i pa pb pc due first second third size codes = record {
   pattern = pattern_of op x y z;
+  plain = three_text op a b c pa pb pc;
   says = line_reads (three (row op).word a b c) _
-  (text_append (two (row op).word a b) (44 ∷ 32 ∷ c)
-  (text_append (one (row op).word a) (44 ∷ 32 ∷ b) (text_append (row op).word (32 ∷ a) (word_is_text op) (blank_text a (solid_text a pa.solid))) (comma_text b (solid_text b pb.solid)))
-  (comma_text c (solid_text c pc.solid)))
+  (three_text op a b c pa pb pc)
   (ap body_of (append_assoc (one (row op).word a) (44 ∷ 32 ∷ b) (44 ∷ 32 ∷ c) ∙ append_assoc (row op).word (32 ∷ a) (44 ∷ 32 ∷ (b ++ 44 ∷ 32 ∷ c)))
   ∙ named op (a ++ 44 ∷ 32 ∷ (b ++ 44 ∷ 32 ∷ c)) ∙ three_operands op a b c x y z pa pb pc due first second third);
   size = size;

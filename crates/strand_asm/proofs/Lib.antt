@@ -10,3 +10,7 @@ pub mod Passes
 pub mod Named
 pub mod Instructions
 pub mod Read
+pub mod Directives
+pub mod Goes
+pub mod CodeWords
+pub mod Law

@@ -127,27 +127,27 @@ reg_reads m op form kind rd rs1 rs2 d s t =
 
 fence_reads : ReadsAs (codes "fence") (instrs.Fence 0 0 255)
 unfolding body_by directive_of from_first mnemonic_of mnemonics instruction_of words_of pieces_of coded
-fence_reads = record { pattern = record { op = Fence; first = operands.Absent; second = operands.Absent; third = operands.Absent }; says = line_reads (codes "fence") _ refl refl; size = refl; codes = λ labels site. refl }
+fence_reads = record { pattern = record { op = Fence; first = operands.Absent; second = operands.Absent; third = operands.Absent }; plain = refl; says = line_reads (codes "fence") _ refl refl; size = refl; codes = λ labels site. refl }
 
 ecall_reads : ReadsAs (codes "ecall") instrs.Ecall
 unfolding body_by directive_of from_first mnemonic_of mnemonics instruction_of words_of pieces_of coded
-ecall_reads = record { pattern = record { op = Ecall; first = operands.Absent; second = operands.Absent; third = operands.Absent }; says = line_reads (codes "ecall") _ refl refl; size = refl; codes = λ labels site. refl }
+ecall_reads = record { pattern = record { op = Ecall; first = operands.Absent; second = operands.Absent; third = operands.Absent }; plain = refl; says = line_reads (codes "ecall") _ refl refl; size = refl; codes = λ labels site. refl }
 
 ebreak_reads : ReadsAs (codes "ebreak") instrs.Ebreak
 unfolding body_by directive_of from_first mnemonic_of mnemonics instruction_of words_of pieces_of coded
-ebreak_reads = record { pattern = record { op = Ebreak; first = operands.Absent; second = operands.Absent; third = operands.Absent }; says = line_reads (codes "ebreak") _ refl refl; size = refl; codes = λ labels site. refl }
+ebreak_reads = record { pattern = record { op = Ebreak; first = operands.Absent; second = operands.Absent; third = operands.Absent }; plain = refl; says = line_reads (codes "ebreak") _ refl refl; size = refl; codes = λ labels site. refl }
 
 persistbarrier_reads : ReadsAs (codes "persistbarrier") instrs.PersistBarrier
 unfolding body_by directive_of from_first mnemonic_of mnemonics instruction_of words_of pieces_of coded
-persistbarrier_reads = record { pattern = record { op = PersistBarrier; first = operands.Absent; second = operands.Absent; third = operands.Absent }; says = line_reads (codes "persistbarrier") _ refl refl; size = refl; codes = λ labels site. refl }
+persistbarrier_reads = record { pattern = record { op = PersistBarrier; first = operands.Absent; second = operands.Absent; third = operands.Absent }; plain = refl; says = line_reads (codes "persistbarrier") _ refl refl; size = refl; codes = λ labels site. refl }
 
 newstrand_reads : ReadsAs (codes "newstrand") instrs.NewStrand
 unfolding body_by directive_of from_first mnemonic_of mnemonics instruction_of words_of pieces_of coded
-newstrand_reads = record { pattern = record { op = NewStrand; first = operands.Absent; second = operands.Absent; third = operands.Absent }; says = line_reads (codes "newstrand") _ refl refl; size = refl; codes = λ labels site. refl }
+newstrand_reads = record { pattern = record { op = NewStrand; first = operands.Absent; second = operands.Absent; third = operands.Absent }; plain = refl; says = line_reads (codes "newstrand") _ refl refl; size = refl; codes = λ labels site. refl }
 
 joinstrand_reads : ReadsAs (codes "joinstrand") instrs.JoinStrand
 unfolding body_by directive_of from_first mnemonic_of mnemonics instruction_of words_of pieces_of coded
-joinstrand_reads = record { pattern = record { op = JoinStrand; first = operands.Absent; second = operands.Absent; third = operands.Absent }; says = line_reads (codes "joinstrand") _ refl refl; size = refl; codes = λ labels site. refl }
+joinstrand_reads = record { pattern = record { op = JoinStrand; first = operands.Absent; second = operands.Absent; third = operands.Absent }; plain = refl; says = line_reads (codes "joinstrand") _ refl refl; size = refl; codes = λ labels site. refl }
 
 some_inside : (s t : List ℕ) → Some s ≡ Some t → s ≡ t
 some_inside s t e = cc

@@ -67,7 +67,7 @@ not_negative (c ∷ ds) some p =
     let other : eqb c 45 ≡ false = ne_eqb c 45 (λ e. omega (arith, r)) in
     rw other (and_false _)
 
-number_again : (n : ℕ) → n < 2 ^ 64 → number_of (decimal n) ≡ Some (pos n)
+pub number_again : (n : ℕ) → n < 2 ^ 64 → number_of (decimal n) ≡ Some (pos n)
 unfolding number_of
 number_again n fits =
     let d = decimal_is_IsNumeral n fits in

@@ -143,7 +143,7 @@ number_solid z fits = record { some = signed_some z fits; solid = numeral_solid 
 digit_solid : (d : ℕ) → d < 16 → is_solid (hex_digit d) ≡ true
 digit_solid d lt = grind (arith, nat_tests)
 
-low_solid : (n m : ℕ) → list_all is_solid (low_digits n m) ≡ true
+pub low_solid : (n m : ℕ) → list_all is_solid (low_digits n m) ≡ true
 low_solid n zero = refl
 low_solid n (suc m) = let low : n / 2 ^ (4 * m) % 16 < 16 = omega arith in rw (digit_solid (n / 2 ^ (4 * m) % 16) low, low_solid n m) refl
 
