@@ -73,8 +73,8 @@ two_as op a b x y i pa pb due first second third size codes = record {
   pattern = pattern_of op x y operands.Absent;
   plain = two_text op a b pa pb;
   says = line_reads (two (row op).word a b) _
-  (two_text op a b pa pb)
-  (ap body_of (append_assoc (row op).word (32 ∷ a) (44 ∷ 32 ∷ b)) ∙ named op (a ++ 44 ∷ 32 ∷ b) ∙ two_operands op a b x y pa pb due first second third);
+      (two_text op a b pa pb)
+      (ap body_of (append_assoc (row op).word (32 ∷ a) (44 ∷ 32 ∷ b)) ∙ named op (a ++ 44 ∷ 32 ∷ b) ∙ two_operands op a b x y pa pb due first second third);
   size = size;
   codes = codes;
 }
@@ -87,9 +87,9 @@ three_as op a b c x y z i pa pb pc due first second third size codes = record {
   pattern = pattern_of op x y z;
   plain = three_text op a b c pa pb pc;
   says = line_reads (three (row op).word a b c) _
-  (three_text op a b c pa pb pc)
-  (ap body_of (append_assoc (one (row op).word a) (44 ∷ 32 ∷ b) (44 ∷ 32 ∷ c) ∙ append_assoc (row op).word (32 ∷ a) (44 ∷ 32 ∷ (b ++ 44 ∷ 32 ∷ c)))
-  ∙ named op (a ++ 44 ∷ 32 ∷ (b ++ 44 ∷ 32 ∷ c)) ∙ three_operands op a b c x y z pa pb pc due first second third);
+      (three_text op a b c pa pb pc)
+      (ap body_of (append_assoc (one (row op).word a) (44 ∷ 32 ∷ b) (44 ∷ 32 ∷ c) ∙ append_assoc (row op).word (32 ∷ a) (44 ∷ 32 ∷ (b ++ 44 ∷ 32 ∷ c)))
+      ∙ named op (a ++ 44 ∷ 32 ∷ (b ++ 44 ∷ 32 ∷ c)) ∙ three_operands op a b c x y z pa pb pc due first second third);
   size = size;
   codes = codes;
 }

@@ -14,3 +14,4 @@ pub mod Directives
 pub mod Goes
 pub mod CodeWords
 pub mod Law
+pub mod Again
