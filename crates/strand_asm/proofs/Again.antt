@@ -1,6 +1,6 @@
 -- The assembly of a listing is the image again.
-use Rattle.std.proofs.Common.{◌≡◌, ℕ, zero, suc, ◌+◌, ◌^◌, ◌<◌, ◌≤◌, Bool, true, false, List, [], ◌∷◌, ◌++◌, length, get_or, map, Option, Some, None, Result, Ok, Err, refl, sym, ap, subst, ◌∙◌, arith}
-use Rattle.std.specs.Prelude.{◌&&◌, ◌==◌, nat_le, slice_index}
+use Rattle.std.proofs.Common.{◌≡◌, ℕ, zero, suc, ◌+◌, ◌^◌, ◌<◌, ◌≤◌, true, false, List, [], ◌∷◌, ◌++◌, length, get_or, map, Result, Ok, Err, refl, ap, arith}
+use Rattle.std.specs.Prelude.{◌==◌, nat_le, slice_index}
 use Rattle.std.specs.List.{list_all}
 use Rattle.std.specs.Result.{OnOk}
 use Rattle.std.proofs.lemmas.List.Folds.{list_all-append}
@@ -8,7 +8,7 @@ use Rattle.std.proofs.lemmas.Bool.Decides.{nat_tests}
 use Rattle.std.specs.Fmt.{decimal}
 use lib.Chars.{codes}
 use Rattle.strand_base.specs.Text.{lines_of}
-use Rattle.strand_image.specs.Parts.{Parts, parts}
+use Rattle.strand_image.specs.Parts.{Parts}
 use Rattle.strand_image.specs.Limits.{IsImage, IsWithin, is_within, least, most}
 use Rattle.strand_image.specs.declared.fault.Quantity.{Quantity}
 use Rattle.strand_image.specs.declared.fault.Quantity.TheVariants.{Cores, Code, Volatile, Persistent}
@@ -18,11 +18,11 @@ use Rattle.strand_asm.specs.declared.addition.Addition.TheVariants as additions
 use Rattle.strand_asm.specs.Layout.{laid, layout_of, nothing}
 use Rattle.strand_asm.specs.DraftSeen.{DraftSeen}
 use Rattle.strand_asm.specs.Draft.{added, addition, blank, draft_of, drafted}
-use Rattle.strand_asm.specs.Assemble.{assembled, core_count, entered, limited, with_entry}
-use Rattle.strand_asm.specs.Listing.{IsDecoded, code_lines, code_text, data_lines, data_texts, entry_lines, entry_text, lines_text, listing, listing_lines, space_text, word_text}
+use Rattle.strand_asm.specs.Assemble.{assembled, core_count, entered, limited}
+use Rattle.strand_asm.specs.Listing.{IsDecoded, code_lines, code_text, data_lines, data_texts, entry_lines, entry_text, listing, listing_lines, space_text, word_text}
 use Rattle.strand_asm.proofs.Plain.{IsText, is_text, lines_again}
 use Rattle.strand_asm.proofs.Goes.{Goes, goes_all, goes_append, goes_cons}
-use Rattle.strand_asm.proofs.Directives.{Printed, code_line, entry_line, persist_line, space_line, volatile_line, word_line}
+use Rattle.strand_asm.proofs.Directives.{code_line, entry_line, persist_line, space_line, volatile_line, word_line}
 use Rattle.strand_asm.proofs.CodeWords.{IsCodeLine, code_line_of}
 use Rattle.strand_asm.proofs.Law.{code_drafted, code_laid, dr, draft_takes, entries_drafted, entries_laid, high_word, lay_takes, persist_drafted, persist_laid, st, volatile_drafted, volatile_laid}
 

@@ -1,6 +1,6 @@
 -- The line of a code word says that word.
-use Rattle.std.proofs.Common.{◌≡◌, ℕ, ◌+◌, ◌-◌, ◌*◌, ◌/◌, ◌^◌, ◌<◌, ◌≤◌, Bool, true, false, List, Option, Some, None, Result, Ok, Err, refl, sym, ap, ◌∙◌, arith}
-use Rattle.std.specs.Prelude.{IfSome, nat_lt, pos}
+use Rattle.std.proofs.Common.{◌≡◌, ℕ, ◌*◌, ◌^◌, ◌<◌, true, List, Option, Some, None, Ok, refl, ap, arith}
+use Rattle.std.specs.Prelude.{IfSome, pos}
 use Rattle.std.specs.Option.{option_and_then}
 use Rattle.strand_isa.specs.Decode.{instr_of}
 use Rattle.strand_isa.specs.Print.{instr_text}

@@ -1,23 +1,22 @@
 -- The lines of a listing that are no instructions.
-use Rattle.std.proofs.Common.{◌≡◌, ℕ, zero, suc, ◌+◌, ◌-◌, ◌*◌, ◌/◌, ◌^◌, ◌<◌, ◌≤◌, Bool, true, false, List, [], ◌∷◌, ◌++◌, length, drop, Option, Some, None, Result, Ok, Err, refl, sym, ap, ◌∙◌, arith}
+use Rattle.std.proofs.Common.{◌≡◌, ℕ, ◌-◌, ◌*◌, ◌/◌, ◌^◌, ◌<◌, ◌≤◌, true, List, [], ◌∷◌, ◌++◌, drop, Ok, refl, ◌∙◌, arith}
 use Rattle.std.specs.Prelude.{nat_le, pos}
 use Rattle.std.specs.Fmt.{decimal}
-use Rattle.std.specs.List.{list_all}
 use Rattle.std.proofs.lemmas.List.{append-nil}
 use Rattle.std.proofs.lemmas.Bool.Decides.{nat_tests}
 use lib.Chars.{codes}
 use Rattle.strand_base.specs.Hexadecimal.{hex16}
 use Rattle.strand_base.specs.Text.{words_of, pieces_of}
-use Rattle.strand_asm_lines.specs.Bytes.{from_first, operand_texts, operand_at, pieces}
-use Rattle.strand_asm_lines.specs.Line.{body_by, body_of, counted, directive_of}
+use Rattle.strand_asm_lines.specs.Bytes.{from_first, operand_texts}
+use Rattle.strand_asm_lines.specs.Line.{body_by, body_of, directive_of}
 use Rattle.strand_asm_lines.specs.declared.line.Operand.TheVariants as operands
 use Rattle.strand_asm_lines.specs.declared.line.Section.TheVariants as sections
 use Rattle.strand_asm_lines.specs.declared.line.Body.{Body}
 use Rattle.strand_asm_lines.specs.declared.line.Body.TheVariants as bodies
 use Rattle.strand_asm.specs.Listing.{entry_text, word_text}
 use Rattle.strand_asm.proofs.Plain.{IsText, line_reads, text_append}
-use Rattle.strand_asm.proofs.Tokens.{all_sixteen, decimal_numeral, decimal_some, hex_number, low_digits, lower_digits, number_again, word_again}
-use Rattle.strand_asm.proofs.Written.{IsSolid, is_solid, lone_solid, low_solid, not_empty, number_solid, one_piece, solid_text, texts_of}
+use Rattle.strand_asm.proofs.Tokens.{all_sixteen, hex_number, lower_digits, number_again, word_again}
+use Rattle.strand_asm.proofs.Written.{IsSolid, lone_solid, low_solid, not_empty, number_solid, one_piece, solid_text, texts_of}
 use Rattle.strand_asm.proofs.Passes.{Says}
 
 -- a printed line, and what it says

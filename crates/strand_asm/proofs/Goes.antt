@@ -1,12 +1,12 @@
 -- A pass over printed lines, in parts.
-use Rattle.std.proofs.Common.{◌≡◌, ℕ, zero, suc, ◌+◌, ◌^◌, ◌<◌, ◌≤◌, List, [], ◌∷◌, ◌++◌, length, get_or, map, replicate, Result, Ok, Err, refl, sym, ap, subst, ◌∙◌, arith, append_assoc, add-one}
+use Rattle.std.proofs.Common.{◌≡◌, ℕ, zero, suc, ◌+◌, ◌^◌, ◌<◌, ◌≤◌, List, [], ◌∷◌, ◌++◌, length, get_or, map, replicate, Result, Ok, refl, sym, ap, subst, ◌∙◌, arith, append_assoc, add-one}
 use Rattle.std.specs.Fmt.{decimal}
 use Rattle.std.proofs.lemmas.List.{append-nil}
 use lib.Chars.{codes}
 use Rattle.strand_asm_lines.specs.declared.line.Line.{Line}
 use Rattle.strand_asm.specs.declared.fault.AsmFault.{AsmFault}
 use Rattle.strand_asm.specs.Layout.{on_line, over_lines}
-use Rattle.strand_asm.specs.Listing.{data_lines, data_texts, space_text, word_text}
+use Rattle.strand_asm.specs.Listing.{data_texts, space_text, word_text}
 use Rattle.strand_asm.proofs.Passes.{over_more}
 
 abbrev pub zeros_of : ℕ → List ℕ

@@ -1,13 +1,12 @@
 -- The text of an instruction is read as that instruction.
-use Rattle.std.proofs.Common.{◌≡◌, ◌≢◌, ℕ, zero, suc, ◌+◌, ◌*◌, ◌/◌, ◌%◌, ◌^◌, ◌<◌, ◌≤◌, Bool, true, false, List, [], ◌∷◌, ◌++◌, Option, Some, None, Result, Ok, Err, refl, sym, ap, ◌∙◌, arith, append_assoc}
-use Rattle.std.specs.Prelude.{◌&&◌, ◌||◌, ◌==◌, nat_lt, ℤ, pos, negsuc}
+use Rattle.std.proofs.Common.{◌≡◌, ℕ, ◌%◌, ◌<◌, true, List, [], ◌∷◌, ◌++◌, Ok, refl, ap, ◌∙◌, arith, append_assoc}
+use Rattle.std.specs.Prelude.{◌&&◌, ◌==◌, nat_lt, ℤ, pos, negsuc}
 use Rattle.std.proofs.lemmas.Bool.Decides.{nat_tests}
-use Rattle.strand_isa.specs.Codes.{amount_bound}
 use Rattle.strand_isa.specs.Word.{IsWithin, IsEvenWithin, field_of}
 use Rattle.strand_isa.specs.Faults.{is_within}
 use Rattle.strand_isa.specs.Print.{one, two, three}
 use Rattle.strand_isa.specs.declared.instr.Instr.{Instr}
-use Rattle.strand_asm_lines.specs.Bytes.{pieces, operand_texts}
+use Rattle.strand_asm_lines.specs.Bytes.{pieces}
 use Rattle.strand_asm_lines.specs.Table.{row, due_count}
 use Rattle.strand_asm_lines.specs.Line.{body_of, instruction_of, operand_of}
 use Rattle.strand_asm_lines.specs.declared.mnemonic.Mnemonic.{Mnemonic}

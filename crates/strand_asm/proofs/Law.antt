@@ -1,37 +1,25 @@
 -- The assembly of a listing is the image again.
-use Rattle.std.proofs.Common.{◌≡◌, ℕ, zero, suc, ◌+◌, ◌-◌, ◌*◌, ◌/◌, ◌^◌, ◌<◌, ◌≤◌, Bool, true, false, List, [], ◌∷◌, ◌++◌, length, get_or, map, replicate, Option, Some, None, Result, Ok, Err, refl, sym, ap, subst, ◌∙◌, arith, append_assoc}
-use Rattle.std.specs.Prelude.{◌&&◌, ◌==◌, ℤ, nat_lt, pos, slice_index}
+use Rattle.std.proofs.Common.{◌≡◌, ℕ, suc, ◌+◌, ◌-◌, ◌*◌, ◌/◌, ◌^◌, ◌<◌, ◌≤◌, true, List, [], ◌∷◌, ◌++◌, length, get_or, Ok, refl, ap, subst, ◌∙◌, arith}
 use Rattle.std.specs.Fmt.{decimal}
-use Rattle.std.specs.List.{list_all}
-use Rattle.std.proofs.lemmas.List.{append-nil, length-append, length-replicate}
-use Rattle.std.proofs.lemmas.List.Folds.{list_all-append}
-use Rattle.std.proofs.lemmas.Bool.Decides.{nat_tests}
+use Rattle.std.proofs.lemmas.List.{length-append, length-replicate}
 use lib.Chars.{codes}
-use Rattle.strand_base.specs.Text.{lines_of}
-use Rattle.strand_image.specs.Parts.{Parts, parts}
-use Rattle.strand_image.specs.Limits.{AreBelow, AreEntries, IsImage, IsWithin, is_within}
-use Rattle.strand_image.specs.declared.fault.Quantity.{Quantity}
-use Rattle.strand_image.specs.declared.fault.Quantity.TheVariants.{Cores, Code, Volatile, Persistent}
+use Rattle.strand_image.specs.Parts.{parts}
 use Rattle.strand_asm_lines.specs.declared.line.Section.{Section}
 use Rattle.strand_asm_lines.specs.declared.line.Section.TheVariants as sections
-use Rattle.strand_asm_lines.specs.declared.line.Operand.TheVariants as operands
 use Rattle.strand_asm_lines.specs.declared.line.Body.{Body}
-use Rattle.strand_asm_lines.specs.declared.line.Body.TheVariants as bodies
 use Rattle.strand_asm.specs.declared.layout.Layout.{Layout}
 use Rattle.strand_asm.specs.declared.place.Site.{Site}
 use Rattle.strand_asm.specs.declared.addition.Addition.{Addition}
 use Rattle.strand_asm.specs.declared.addition.Addition.TheVariants as additions
-use Rattle.strand_asm.specs.Layout.{grown, is_placed, laid, layout_of, nothing}
+use Rattle.strand_asm.specs.Layout.{grown, is_placed, laid}
 use Rattle.strand_asm.specs.DraftSeen.{DraftSeen}
-use Rattle.strand_asm.specs.Draft.{added, addition, blank, draft_of, drafted, entry_added, word_added}
-use Rattle.strand_asm.specs.Assemble.{assembled, core_count, entered, limited, with_entry, within}
-use Rattle.strand_asm.specs.Listing.{IsDecoded, code_lines, code_text, data_lines, data_texts, entry_lines, entry_text, lines_text, listing, listing_lines, space_text, word_text}
-use Rattle.strand_asm.proofs.Plain.{IsText, is_text, lines_again}
+use Rattle.strand_asm.specs.Draft.{added, addition, drafted, entry_added, word_added}
+use Rattle.strand_asm.specs.Listing.{code_lines, code_text, data_lines, entry_lines, entry_text, word_text}
 use Rattle.strand_asm.proofs.Passes.{drafted_line, laid_line}
-use Rattle.strand_asm.proofs.Goes.{Goes, Takes, goes_all, goes_append, goes_cons, goes_data, goes_map, zeros_of}
+use Rattle.strand_asm.proofs.Goes.{Goes, Takes, goes_data, goes_map, zeros_of}
 use Rattle.strand_asm.proofs.Instructions.{below_fits}
-use Rattle.strand_asm.proofs.Directives.{Printed, code_line, entry_line, persist_line, space_line, volatile_line, word_line}
-use Rattle.strand_asm.proofs.CodeWords.{IsCodeLine, code_line_of}
+use Rattle.strand_asm.proofs.Directives.{Printed, entry_line, space_line, word_line}
+use Rattle.strand_asm.proofs.CodeWords.{IsCodeLine}
 
 -- states of the two passes
 abbrev pub st : Section → ℕ → ℕ → ℕ → ℕ → Layout

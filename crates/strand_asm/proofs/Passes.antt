@@ -1,27 +1,14 @@
 -- The two passes over a listing.
-use Rattle.std.proofs.Common.{◌≡◌, ℕ, zero, suc, ◌+◌, ◌<◌, ◌≤◌, Bool, true, false, cond, List, [], ◌∷◌, ◌++◌, length, get_or, map, replicate, Option, Some, None, Result, Ok, Err, refl, sym, ap, ◌∙◌, arith, append_assoc}
-use Rattle.std.specs.Prelude.{ℤ, pos}
-use Rattle.std.proofs.lemmas.List.{append-nil}
-use Rattle.strand_image.specs.Parts.{Parts, parts}
-use Rattle.strand_isa.specs.Word.{word_of}
-use Rattle.strand_isa.specs.declared.instr.Instr.{Instr}
+use Rattle.std.proofs.Common.{◌≡◌, ℕ, ◌+◌, true, List, ◌∷◌, length, None, Result, Ok, refl}
 use Rattle.strand_asm_lines.specs.Line.{line_of}
-use Rattle.strand_asm_lines.specs.declared.line.Section.{Section}
-use Rattle.strand_asm_lines.specs.declared.line.Section.TheVariants as sections
-use Rattle.strand_asm_lines.specs.declared.line.Operand.TheVariants as operands
 use Rattle.strand_asm_lines.specs.declared.line.Body.{Body}
-use Rattle.strand_asm_lines.specs.declared.line.Body.TheVariants as bodies
 use Rattle.strand_asm_lines.specs.declared.line.Line.{Line}
-use Rattle.strand_asm_lines.specs.declared.line.Pattern.{Pattern}
 use Rattle.strand_asm.specs.declared.fault.AsmFault.{AsmFault}
 use Rattle.strand_asm.specs.declared.layout.Layout.{Layout}
-use Rattle.strand_asm.specs.declared.coded.Coded.TheVariants.{One}
-use Rattle.strand_asm.specs.declared.place.Site.{Site}
 use Rattle.strand_asm.specs.declared.addition.Addition.{Addition}
-use Rattle.strand_asm.specs.Layout.{◌>>=◌, at_line, grown, is_placed, laid, on_line, over_lines, size_of, with_words}
-use Rattle.strand_asm.specs.Encode.{Table, pattern_coded}
+use Rattle.strand_asm.specs.Layout.{grown, is_placed, laid, on_line, over_lines}
 use Rattle.strand_asm.specs.DraftSeen.{DraftSeen}
-use Rattle.strand_asm.specs.Draft.{added, addition, drafted, with_data}
+use Rattle.strand_asm.specs.Draft.{added, addition, drafted}
 
 -- a line without a label that says this
 abbrev pub Says : List ℕ → Body → Type 0

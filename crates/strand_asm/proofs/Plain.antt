@@ -1,18 +1,16 @@
 -- Lines of plain text are read as they were printed.
-use Rattle.std.proofs.Common.{◌≡◌, ◌≢◌, ℕ, zero, suc, ◌+◌, ◌<◌, ◌≤◌, Bool, true, false, cond, eqb, ltb, not, List, [], ◌∷◌, ◌++◌, length, take, drop, Option, Some, None, Result, Ok, Err, refl, sym, ap, ◌∙◌, arith, append_assoc, inl, inr}
+use Rattle.std.proofs.Common.{◌≡◌, ◌≢◌, ℕ, ◌≤◌, Bool, true, false, eqb, not, List, [], ◌∷◌, ◌++◌, length, None, Ok, refl, ap, ◌∙◌, arith, append_assoc, inl, inr}
 use Rattle.std.specs.Prelude.{◌&&◌, ◌||◌, ◌==◌, nat_le}
-use Rattle.std.specs.List.{list_all, position_or_len, before_first}
+use Rattle.std.specs.List.{list_all, position_or_len}
 use Rattle.std.specs.Char.{is_ascii_graphic}
 use Rattle.std.proofs.lemmas.Bool.{ne_eqb, cases_lt}
 use Rattle.std.proofs.lemmas.Bool.Decides.{nat_tests}
 use Rattle.std.proofs.lemmas.List.{take_all}
 use Rattle.std.proofs.lemmas.List.Folds.{list_all-append}
-use Rattle.strand_base.specs.Text.{lines_of, onto_first, without_return_of, content_of, is_blank}
+use Rattle.strand_base.specs.Text.{lines_of, without_return_of, content_of, is_blank}
 use Rattle.strand_asm_lines.specs.Bytes.{is_plain, pieces}
-use Rattle.strand_asm_lines.specs.Line.{◌>>=◌, body_of, labelled, line_of, parts_of}
+use Rattle.strand_asm_lines.specs.Line.{body_of, line_of, parts_of}
 use Rattle.strand_asm_lines.specs.declared.line.Body.{Body}
-use Rattle.strand_asm_lines.specs.declared.line.Line.{Line}
-use Rattle.strand_asm_lines.specs.declared.fault.LineKind.{LineKind}
 use Rattle.strand_asm.specs.Listing.{lines_text}
 
 -- a byte that shows, without '#' and ':'

@@ -1,5 +1,5 @@
 -- Every instruction that has a text is read from it.
-use Rattle.std.proofs.Common.{◌≡◌, ℕ, zero, suc, ◌+◌, ◌*◌, ◌^◌, ◌<◌, ◌≤◌, Bool, true, false, cond, List, [], ◌∷◌, ◌++◌, Option, Some, None, Result, Ok, Err, refl, sym, ap, subst, ◌∙◌, arith}
+use Rattle.std.proofs.Common.{◌≡◌, ℕ, ◌+◌, ◌*◌, ◌^◌, ◌<◌, ◌≤◌, Bool, true, false, cond, List, Some, None, refl, ap, subst, arith}
 use Rattle.std.specs.Prelude.{◌==◌, ℤ, pos, negsuc}
 use Rattle.std.specs.Fmt.{decimal, signed_decimal}
 use Rattle.std.proofs.lemmas.Bool.{eqb-true}
@@ -7,7 +7,7 @@ use lib.Chars.{codes}
 use Rattle.strand_base.specs.Text.{words_of, pieces_of}
 use Rattle.strand_isa.specs.Codes.{amount_bound}
 use Rattle.strand_isa.specs.Word.{IsEvenWithin, IsValid, IsWithin, word_of}
-use Rattle.strand_isa.specs.Print.{branch_name, field_text, imm_name, instr_text, load_name, memory_text, reg_name, register_text, shift_name, store_name, three, two, upper_name}
+use Rattle.strand_isa.specs.Print.{field_text, instr_text, memory_text, register_text, three, two}
 use Rattle.strand_isa.specs.declared.instr.Instr.{Instr}
 use Rattle.strand_isa.specs.declared.instr.Instr.TheVariants as instrs
 use Rattle.strand_isa.specs.declared.instr.UpperOp.{UpperOp}
@@ -31,11 +31,8 @@ use Rattle.strand_asm_lines.specs.declared.mnemonic.Mnemonic.{Mnemonic}
 use Rattle.strand_asm_lines.specs.declared.mnemonic.Mnemonic.TheVariants.{Lui, Auipc, Jal, Jalr, Beq, Bne, Blt, Bge, Bltu, Bgeu, Lb, Lh, Lw, Ld, Lbu, Lhu, Lwu, Sb, Sh, Sw, Sd, Addi, Slti, Sltiu, Xori, Ori, Andi, Addiw, Slli, Srli, Srai, Slliw, Srliw, Sraiw, Add, Sub, Sll, Slt, Sltu, Xor, Srl, Sra, Or, And, Addw, Subw, Sllw, Srlw, Sraw, Fence, Ecall, Ebreak, PersistBarrier, NewStrand, JoinStrand}
 use Rattle.strand_asm_lines.specs.declared.line.Operand.TheVariants as operands
 use Rattle.strand_asm.specs.Kinds.{kind_of}
-use Rattle.strand_asm.specs.Encode.{Table, coded, offset_to}
-use Rattle.strand_asm.specs.declared.kind.Kind.{Kind}
+use Rattle.strand_asm.specs.Encode.{coded, offset_to}
 use Rattle.strand_asm.specs.declared.kind.Kind.TheVariants as kinds
-use Rattle.strand_asm.specs.declared.coded.Coded.TheVariants.{One}
-use Rattle.strand_asm.specs.declared.place.Site.{Site}
 use Rattle.strand_asm.proofs.Plain.{line_reads}
 use Rattle.strand_asm.proofs.Tokens.{IsNumber}
 use Rattle.strand_asm.proofs.Written.{field_operand, field_solid, memory_operand, memory_solid, number_operand, number_solid, register_operand, register_solid, target_operand}

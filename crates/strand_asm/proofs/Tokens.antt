@@ -1,6 +1,6 @@
 -- Printed numbers, registers and places in memory are read again.
-use Rattle.std.proofs.Common.{◌≡◌, ◌≢◌, ℕ, zero, suc, ◌+◌, ◌-◌, ◌*◌, ◌/◌, ◌%◌, ◌^◌, ◌<◌, ◌≤◌, Bool, true, false, cond, eqb, ltb, not, List, [], ◌∷◌, ◌++◌, length, get_or, take, drop, Option, Some, None, Result, Ok, Err, refl, sym, ap, ◌∙◌, arith, append_assoc, inl, inr}
-use Rattle.std.specs.Prelude.{◌&&◌, ◌||◌, ◌==◌, nat_le, nat_lt, position, min, ℤ, pos, negsuc}
+use Rattle.std.proofs.Common.{◌≡◌, ℕ, zero, suc, ◌+◌, ◌-◌, ◌*◌, ◌/◌, ◌%◌, ◌^◌, ◌<◌, ◌≤◌, Bool, true, false, cond, eqb, ltb, not, List, [], ◌∷◌, length, get_or, drop, Option, Some, None, Ok, refl, sym, ap, ◌∙◌, arith, inl, inr}
+use Rattle.std.specs.Prelude.{◌&&◌, ◌==◌, nat_le, position, min, ℤ, pos, negsuc}
 use Rattle.std.specs.List.{list_all, position_or_len, range_with_len}
 use Rattle.std.specs.Char.{digit_value, is_ascii_hexdigit}
 use Rattle.std.specs.Fmt.{decimal, digits, signed_decimal}
@@ -11,12 +11,11 @@ use Rattle.std.proofs.lemmas.Bool.{cases_lt, eqb-true, ne_eqb, le-ltb, lt-ltb}
 use Rattle.std.proofs.lemmas.Bool.Decides.{nat_tests}
 use Rattle.std.proofs.lemmas.Fmt.{decimal_is_IsNumeral}
 use Rattle.std.proofs.lemmas.Str.Parse.{digit_from_value}
-use Rattle.strand_base.specs.Number.{decimal_of, hexadecimal_of}
+use Rattle.strand_base.specs.Number.{hexadecimal_of}
 use Rattle.strand_base.specs.Hexadecimal.{hex_digit, hex16}
 use Rattle.strand_isa.specs.Print.{register_text, short_hex}
 use Rattle.strand_base.proofs.Again.{decimal_again}
-use Rattle.strand_asm_lines.specs.Bytes.{pieces}
-use Rattle.strand_asm_lines.specs.Token.{bracketed, is_hexadecimal, is_negative, negative_of, number_of, numbered_register, offset_of, register_of, two_digits}
+use Rattle.strand_asm_lines.specs.Token.{is_hexadecimal, is_negative, negative_of, number_of, numbered_register, offset_of, register_of, two_digits}
 use Rattle.strand_asm.proofs.Plain.{and_both}
 
 and_false : (a : Bool) → (a && false) ≡ false

@@ -1,26 +1,23 @@
 -- Operands that were printed are read again.
-use Rattle.std.proofs.Common.{◌≡◌, ◌≢◌, ℕ, zero, suc, ◌+◌, ◌*◌, ◌/◌, ◌%◌, ◌^◌, ◌<◌, ◌≤◌, Bool, true, false, cond, eqb, ltb, not, List, [], ◌∷◌, ◌++◌, length, get_or, Option, Some, None, Result, Ok, Err, refl, sym, ap, ◌∙◌, arith, append_assoc}
-use Rattle.std.specs.Prelude.{◌&&◌, ◌||◌, ◌==◌, nat_le, nat_lt, ℤ, pos, negsuc}
-use Rattle.std.specs.List.{list_all, list_any, range_with_len}
+use Rattle.std.proofs.Common.{◌≡◌, ◌≢◌, ℕ, zero, suc, ◌*◌, ◌/◌, ◌%◌, ◌^◌, ◌<◌, ◌≤◌, Bool, true, false, eqb, not, List, [], ◌∷◌, ◌++◌, length, Option, Some, Ok, refl, sym, arith, append_assoc}
+use Rattle.std.specs.Prelude.{◌&&◌, ◌==◌, nat_le, ℤ, pos}
+use Rattle.std.specs.List.{list_all}
 use Rattle.std.specs.Fmt.{decimal, signed_decimal}
-use Rattle.std.specs.Option.{option_map, option_and_then, ok_or}
 use Rattle.std.proofs.lemmas.Bool.{ne_eqb}
 use Rattle.std.proofs.lemmas.Bool.Decides.{nat_tests}
 use Rattle.std.proofs.lemmas.List.Folds.{list_all-append}
 use Rattle.std.proofs.lemmas.List.{length-append}
 use Rattle.strand_base.specs.Hexadecimal.{hex_digit}
-use Rattle.strand_base.specs.Text.{onto_first, is_blank, pieces_of, filled, words_of}
+use Rattle.strand_base.specs.Text.{onto_first, pieces_of, filled, words_of}
 use Rattle.strand_isa.specs.Print.{field_text, memory_text, register_text, short_hex}
-use Rattle.strand_asm_lines.specs.Bytes.{pieces, lone, operands_when, operand_texts, operand_at, some_empty}
-use Rattle.strand_asm_lines.specs.Token.{bracketed, number_of, offset_of, register_of}
+use Rattle.strand_asm_lines.specs.Bytes.{pieces, operands_when, operand_texts, some_empty}
+use Rattle.strand_asm_lines.specs.Token.{bracketed}
 use Rattle.strand_asm_lines.specs.Line.{in_word, memory_of, operand_of}
 use Rattle.strand_asm_lines.specs.Table.{row}
 use Rattle.strand_asm_lines.specs.declared.mnemonic.Mnemonic.TheVariants.{Add, Addi, Jal, Jalr, Lui}
-use Rattle.strand_asm_lines.specs.declared.line.Operand.{Operand}
 use Rattle.strand_asm_lines.specs.declared.line.Operand.TheVariants as operands
-use Rattle.strand_asm_lines.specs.declared.fault.LineKind.{LineKind}
 use Rattle.strand_asm.proofs.Plain.{IsText, and_both, is_text}
-use Rattle.strand_asm.proofs.Tokens.{IsNumber, IsNumeralText, all_weaken, decimal_numeral, decimal_some, hex_number, is_numeral, low_digits, offset_again, register_again, short_again, short_is_low, signed_again, signed_numeral, signed_some}
+use Rattle.strand_asm.proofs.Tokens.{IsNumber, IsNumeralText, all_weaken, decimal_numeral, hex_number, is_numeral, low_digits, offset_again, register_again, short_again, short_is_low, signed_again, signed_numeral, signed_some}
 
 -- a byte of an operand: it shows, and is no ',', '#' or ':'
 abbrev pub is_solid : ℕ → Bool
