@@ -24,7 +24,7 @@ use Rattle.strand_asm.proofs.Plain.{IsText, is_text, lines_again}
 use Rattle.strand_asm.proofs.Goes.{Goes, goes_all, goes_append, goes_cons}
 use Rattle.strand_asm.proofs.Directives.{code_line, entry_line, persist_line, space_line, volatile_line, word_line}
 use Rattle.strand_asm.proofs.CodeWords.{IsCodeLine, code_line_of}
-use Rattle.strand_asm.proofs.Law.{code_drafted, code_laid, dr, draft_takes, entries_drafted, entries_laid, high_word, lay_takes, persist_drafted, persist_laid, st, volatile_drafted, volatile_laid}
+use Rattle.strand_asm.proofs.Passed.{code_drafted, code_laid, dr, draft_takes, entries_drafted, entries_laid, high_word, lay_takes, persist_drafted, persist_laid, st, volatile_drafted, volatile_laid}
 
 -- lines of plain text
 abbrev AreText : List (List ℕ) → Type 0

@@ -13,5 +13,5 @@ pub mod Read
 pub mod Directives
 pub mod Goes
 pub mod CodeWords
-pub mod Law
+pub mod Passed
 pub mod Again

@@ -1,4 +1,4 @@
--- The two passes over a listing.
+-- A line without a label in each of the two passes.
 use Rattle.std.proofs.Common.{◌≡◌, ℕ, ◌+◌, true, List, ◌∷◌, length, None, Result, Ok, refl}
 use Rattle.strand_asm_lines.specs.Line.{line_of}
 use Rattle.strand_asm_lines.specs.declared.line.Body.{Body}
