@@ -1,7 +1,6 @@
 -- The second pass makes as many words as the first one counted.
-use Rattle.std.proofs.Common.{◌≡◌, ℕ, zero, suc, ◌+◌, ◌<◌, ◌≤◌, arith, Bool, true, false, cond, List, [], ◌∷◌, ◌++◌, length, get_or, replicate, Option, Some, None, Result, Ok, Err, refl, sym, ap, ◌∙◌, subst}
-use Rattle.std.specs.Prelude.{ℤ, pos, negsuc, nat_lt, slice_index}
-use Rattle.std.specs.Option.{option_map}
+use Rattle.std.proofs.Common.{◌≡◌, ℕ, zero, suc, ◌+◌, ◌<◌, arith, Bool, true, false, cond, List, [], ◌∷◌, ◌++◌, length, replicate, Option, Some, None, Result, Ok, Err, refl, sym, ap, ◌∙◌, subst}
+use Rattle.std.specs.Prelude.{ℤ, pos, negsuc, nat_lt}
 use Rattle.std.proofs.lemmas.List.{length-append, length-replicate}
 use Rattle.std.proofs.lemmas.Bool.Decides.{nat_tests}
 use Rattle.strand_isa.specs.Faults.{is_within}
@@ -21,14 +20,13 @@ use Rattle.strand_asm.specs.declared.kind.Kind.TheVariants as kinds
 use Rattle.strand_asm.specs.declared.coded.Coded.{Coded}
 use Rattle.strand_asm.specs.declared.coded.Coded.TheVariants.{One, Two}
 use Rattle.strand_asm.specs.declared.addition.Addition.{Addition}
-use Rattle.strand_asm.specs.declared.addition.Addition.TheVariants as additions
 use Rattle.strand_asm.specs.declared.layout.Layout.{Layout}
 use Rattle.strand_asm.specs.declared.place.Place.{Place}
 use Rattle.strand_asm.specs.declared.place.Site.{Site}
-use Rattle.strand_asm.specs.Operands.{number, below, wrapped, register}
+use Rattle.strand_asm.specs.Operands.{number, below, wrapped}
 use Rattle.strand_asm.specs.Kinds.{kind_of}
 use Rattle.strand_asm.specs.Layout.{◌>>=◌, at_line, on_line, over_lines, place_of, size_by, size_of, grown, is_code, is_placed, unless_held, with_words, with_label, laid}
-use Rattle.strand_asm.specs.Encode.{Table, fitted, one, jump, li_coded, offset_to, address_of, coded, pattern_coded}
+use Rattle.strand_asm.specs.Encode.{Table, fitted, one, jump, li_coded, offset_to, address_of, coded}
 use Rattle.strand_asm.specs.DraftSeen.{DraftSeen}
 use Rattle.strand_asm.specs.Draft.{entry_number, entry_added, word_added, words_of, with_data, addition, added, drafted}
 

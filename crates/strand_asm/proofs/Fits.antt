@@ -1,7 +1,6 @@
 -- A text within the limits gives an image: its sizes are those that were counted, and its entries are code words.
-use Rattle.std.proofs.Common.{◌≡◌, ◌≢◌, ℕ, zero, suc, ◌<◌, ◌≤◌, arith, Bool, true, false, cond, ltb, List, [], ◌∷◌, length, get_or, Some, None, Result, Ok, Err, refl, sym, ap, ◌∙◌, subst, position}
+use Rattle.std.proofs.Common.{◌≡◌, ℕ, zero, suc, ◌<◌, ◌≤◌, arith, Bool, true, false, ltb, List, [], ◌∷◌, length, get_or, None, Ok, refl, sym, ap, ◌∙◌, subst, position}
 use Rattle.std.specs.Prelude.{nat_le, ◌==◌}
-use Rattle.std.specs.List.{position_or_len}
 use Rattle.std.proofs.lemmas.List.Sums.{position_or_len_is}
 use Rattle.std.proofs.lemmas.Bool.Decides.{nat_tests}
 use Rattle.strand_base.specs.Text.{lines_of}

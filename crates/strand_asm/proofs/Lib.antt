@@ -3,3 +3,15 @@ pub mod Lines
 pub mod Counts
 pub mod Fits
 pub mod Lists
+pub mod Plain
+pub mod Tokens
+pub mod Written
+pub mod Passes
+pub mod Named
+pub mod Instructions
+pub mod Read
+pub mod Directives
+pub mod Goes
+pub mod CodeWords
+pub mod Passed
+pub mod Again

@@ -1,10 +1,10 @@
 -- One line more in a pass over a text.
-use Rattle.std.proofs.Common.{◌≡◌, ℕ, ◌+◌, List, [], ◌∷◌, Result, Ok, Err, refl, sym, ap, ◌∙◌}
+use Rattle.std.proofs.Common.{◌≡◌, ℕ, ◌+◌, List, [], ◌∷◌, Result, Ok, refl, sym, ap, ◌∙◌}
 use Rattle.strand_base.specs.Text.{lines_of}
 use Rattle.strand_asm_lines.specs.declared.line.Line.{Line}
 use Rattle.strand_asm.specs.declared.fault.AsmFault.{AsmFault}
 use Rattle.strand_asm.specs.declared.fault.AsmFault.TheVariants as faults
-use Rattle.strand_asm.specs.Layout.{◌>>=◌, over_lines, on_line, Fails, Steps}
+use Rattle.strand_asm.specs.Layout.{◌>>=◌, over_lines, on_line, Fails}
 
 module _ {S : Type 0} (step : ℕ → S → Line → Result S AsmFault) where
   -- the lines from a first line on

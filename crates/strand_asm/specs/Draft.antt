@@ -1,5 +1,5 @@
 -- The second pass over a text: what each line adds to the image.
-use Rattle.std.specs.Prelude.{ℕ, ℤ, pos, List, [], ◌∷◌, ◌++◌, length, replicate, Result, Ok, Err}
+use Rattle.std.specs.Prelude.{ℕ, ℤ, pos, List, [], ◌∷◌, ◌++◌, length, replicate, Result, Ok}
 use Rattle.strand_base.specs.Text.{lines_of}
 use Rattle.strand_isa.specs.Word.{word_of}
 use Rattle.strand_image.specs.Parts.{Parts, parts}

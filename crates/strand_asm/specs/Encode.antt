@@ -1,12 +1,18 @@
 -- The words of an instruction at its place, by the labels of its text.
-use Rattle.std.specs.Prelude.{◌≡◌, ℕ, ◌+◌, ◌*◌, ◌/◌, ◌%◌, ◌<◌, ℤ, pos, ◌-ℤ◌, Bool, true, false, List, Option, Some, None, Result, Ok, Err, if◌then◌else◌}
+use Rattle.std.specs.Prelude.{ℕ, ◌+◌, ◌*◌, ◌/◌, ◌%◌, ℤ, pos, ◌-ℤ◌, List, Option, Some, None, Result, Ok, Err, if◌then◌else◌}
 use Rattle.std.specs.Option.{option_map}
 use Rattle.strand_isa.specs.Codes.{amount_bound}
-use Rattle.strand_isa.specs.Word.{field_of, word_of, IsValid}
+use Rattle.strand_isa.specs.Word.{field_of, IsValid}
 use Rattle.strand_isa.specs.Faults.{is_within}
 use Rattle.strand_isa.specs.Decode.{signed_of}
 use Rattle.strand_isa.specs.declared.instr.Instr.{Instr}
 use Rattle.strand_isa.specs.declared.instr.Instr.TheVariants.{Upper, Jal, Jalr, Branch, Load, Store, Imm, Shift, Reg}
+use Rattle.strand_isa.specs.declared.instr.UpperOp.{UpperOp}
+use Rattle.strand_isa.specs.declared.instr.BranchOp.{BranchOp}
+use Rattle.strand_isa.specs.declared.instr.LoadOp.{LoadOp}
+use Rattle.strand_isa.specs.declared.instr.StoreOp.{StoreOp}
+use Rattle.strand_isa.specs.declared.instr.ImmOp.{ImmOp}
+use Rattle.strand_isa.specs.declared.instr.ShiftOp.{ShiftOp}
 use Rattle.strand_isa.specs.declared.instr.UpperOp.TheVariants.{Lui}
 use Rattle.strand_isa.specs.declared.instr.ImmOp.TheVariants.{Addi, Addiw}
 use Rattle.strand_asm_lines.specs.declared.line.Section.{Section}
@@ -81,30 +87,57 @@ li_coded line rd z =
 abbrev pub one : ℕ → ℤ → Option Instr → Result Coded AsmFault
 one line z i = fitted line z (option_map (λ j. One j) i)
 
+-- the instructions of each form, by its operands
+abbrev pub upper_coded : ℕ → UpperOp → Operand → Operand → Result Coded AsmFault
+upper_coded line op a b = one line (number b) (option_map (λ n. Upper op (register a) n) (below 1048576 (number b)))
+
+abbrev pub jalr_coded : ℕ → Operand → Operand → Result Coded AsmFault
+jalr_coded line a b = one line (number b) (option_map (λ n. Jalr (register a) (register b) n) (signed 2048 (number b)))
+
+abbrev pub load_coded : ℕ → LoadOp → Operand → Operand → Result Coded AsmFault
+load_coded line op a b = one line (number b) (option_map (λ n. Load op (register a) (register b) n) (signed 2048 (number b)))
+
+abbrev pub store_coded : ℕ → StoreOp → Operand → Operand → Result Coded AsmFault
+store_coded line op a b = one line (number b) (option_map (λ n. Store op (register b) (register a) n) (signed 2048 (number b)))
+
+abbrev pub imm_coded : ℕ → ImmOp → Operand → Operand → Operand → Result Coded AsmFault
+imm_coded line op a b c = one line (number c) (option_map (λ n. Imm op (register a) (register b) n) (signed 2048 (number c)))
+
+abbrev pub shift_coded : ℕ → ShiftOp → Operand → Operand → Operand → Result Coded AsmFault
+shift_coded line op a b c = one line (number c) (option_map (λ n. Shift op (register a) (register b) n) (below (amount_bound op) (number c)))
+
+-- jumps and branches to a target
 abbrev pub jump : Table → Site → ℕ → Operand → Result Coded AsmFault
 jump labels site rd target = do
   z ← offset_to labels site target
   one site.line z (option_map (λ o. Jal rd o) (even 1048576 z))
 
-unfoldable pub coded : Table → Site → Kind → Operand → Operand → Operand → Result Coded AsmFault
-coded labels site (kinds.Upper op) a b c = one site.line (number b) (option_map (λ n. Upper op (register a) n) (below 1048576 (number b)))
-coded labels site kinds.Jal a b c = jump labels site (register a) b
-coded labels site kinds.Jalr a b c = one site.line (number b) (option_map (λ n. Jalr (register a) (register b) n) (signed 2048 (number b)))
-coded labels site (kinds.Branch op) a b c = do
+abbrev pub branch_coded : Table → Site → BranchOp → Operand → Operand → Operand → Result Coded AsmFault
+branch_coded labels site op a b c = do
   z ← offset_to labels site c
   one site.line z (option_map (λ o. Branch op (register a) (register b) o) (even 4096 z))
-coded labels site (kinds.Load op) a b c = one site.line (number b) (option_map (λ n. Load op (register a) (register b) n) (signed 2048 (number b)))
-coded labels site (kinds.Store op) a b c = one site.line (number b) (option_map (λ n. Store op (register b) (register a) n) (signed 2048 (number b)))
-coded labels site (kinds.Imm op) a b c = one site.line (number c) (option_map (λ n. Imm op (register a) (register b) n) (signed 2048 (number c)))
-coded labels site (kinds.Shift op) a b c = one site.line (number c) (option_map (λ n. Shift op (register a) (register b) n) (below (amount_bound op) (number c)))
+
+-- 'la' makes the address of a label
+abbrev pub la_coded : Table → ℕ → Operand → Operand → Result Coded AsmFault
+la_coded labels line a b = do
+  n ← address_of labels line b
+  Ok (pair (register a) n)
+
+unfoldable pub coded : Table → Site → Kind → Operand → Operand → Operand → Result Coded AsmFault
+coded labels site (kinds.Upper op) a b c = upper_coded site.line op a b
+coded labels site kinds.Jal a b c = jump labels site (register a) b
+coded labels site kinds.Jalr a b c = jalr_coded site.line a b
+coded labels site (kinds.Branch op) a b c = branch_coded labels site op a b c
+coded labels site (kinds.Load op) a b c = load_coded site.line op a b
+coded labels site (kinds.Store op) a b c = store_coded site.line op a b
+coded labels site (kinds.Imm op) a b c = imm_coded site.line op a b c
+coded labels site (kinds.Shift op) a b c = shift_coded site.line op a b c
 coded labels site (kinds.Reg op) a b c = Ok (One (Reg op (register a) (register b) (register c)))
 coded labels site (kinds.Alone i) a b c = Ok (One i)
 coded labels site kinds.Move a b c = Ok (One (Imm Addi (register a) (register b) (pos 0)))
 coded labels site kinds.Jump a b c = jump labels site 0 a
 coded labels site kinds.Li a b c = li_coded site.line (register a) (number b)
-coded labels site kinds.La a b c = do
-  n ← address_of labels site.line b
-  Ok (pair (register a) n)
+coded labels site kinds.La a b c = la_coded labels site.line a b
 
 -- the instructions of a line
 abbrev pub pattern_coded : Table → Site → Pattern → Result Coded AsmFault

@@ -32,9 +32,9 @@ space_text zero = []
 space_text (suc n) = (codes ".space " ++ decimal (suc n)) ∷ []
 
 abbrev pub data_texts : ℕ → List ℕ → List (List ℕ)
-data_texts zeros [] = space_text zeros
-data_texts zeros (zero ∷ ws) = data_texts (zeros + 1) ws
-data_texts zeros (suc w ∷ ws) = (space_text zeros ++ word_text 0 (suc w) ∷ []) ++ data_texts 0 ws
+data_texts count [] = space_text count
+data_texts count (zero ∷ ws) = data_texts (count + 1) ws
+data_texts count (suc w ∷ ws) = (space_text count ++ word_text 0 (suc w) ∷ []) ++ data_texts 0 ws
 
 unfoldable pub entry_lines : List ℕ → List (List ℕ)
 entry_lines entries = map entry_text entries
@@ -43,7 +43,7 @@ unfoldable pub code_lines : List ℕ → List (List ℕ)
 code_lines code = map code_text code
 
 unfoldable pub data_lines : ℕ → List ℕ → List (List ℕ)
-data_lines zeros words = data_texts zeros words
+data_lines count words = data_texts count words
 
 abbrev pub listing_lines : Parts → List (List ℕ)
 listing_lines p = entry_lines p.entries ++ (codes ".code" ∷ code_lines p.code) ++ (codes ".volatile" ∷ data_lines 0 p.volatile) ++ (codes ".persist" ∷ data_lines 0 p.persistent)

@@ -1,5 +1,5 @@
 -- What an operand gives at its place. An operand of another form never stands there, and gives 0.
-use Rattle.std.specs.Prelude.{ℕ, ◌<◌, ◌==◌, ◌&&◌, nat_lt, ℤ, pos, negsuc, ◌%◌, ◌+◌, ◌-◌, ◌*◌, Option, Some, None, if◌then◌else◌}
+use Rattle.std.specs.Prelude.{ℕ, ◌==◌, ◌&&◌, nat_lt, ℤ, pos, negsuc, ◌%◌, ◌+◌, ◌-◌, ◌*◌, Option, Some, None, if◌then◌else◌}
 use Rattle.strand_isa.specs.Word.{field_of}
 use Rattle.strand_isa.specs.Faults.{is_within}
 use Rattle.strand_asm_lines.specs.declared.line.Operand.{Operand}

@@ -3,7 +3,7 @@ ghost use Rattle.strand_isa.specs.Codes.{amount_bound};
 ghost use Rattle.strand_isa.specs.Word.{IsValid};
 ghost use Rattle.strand_asm_lines.specs.Line.{HasRegister};
 ghost use Rattle.strand_asm.specs.Operands.{number};
-ghost use Rattle.strand_asm.specs.Encode.{AreValid, coded, jump, li_coded, one, pair, pattern_coded};
+ghost use Rattle.strand_asm.specs.Encode.{AreValid, branch_coded, coded, imm_coded, jalr_coded, jump, la_coded, li_coded, load_coded, one, pair, pattern_coded, shift_coded, store_coded, upper_coded};
 ghost use Rattle.strand_asm.specs.declared.fault.AsmFault.{AsmFault};
 ghost use Rattle.strand_asm.specs.Kinds.{IsValidKind};
 
@@ -93,6 +93,149 @@ fn amount_bound(op: ShiftOp) -> u32
     }
 }
 
+fn upper_coded(line: u32, op: UpperOp, a: &Operand, b: &Operand) -> Result<Coded, AsmFault>
+    requires { HasRegister a.now }
+    ensures gives { result ≡ upper_coded line op a.now b.now }
+    ensures valid { IfOk result AreValid }
+{
+    let rd = register(a);
+    let z = number(b);
+    one(
+        line,
+        z,
+        below(1048576, z).map(|imm| Instr::Upper { op, rd, imm }),
+    )
+}
+
+fn jalr_coded(line: u32, a: &Operand, b: &Operand) -> Result<Coded, AsmFault>
+    requires a { HasRegister a.now }
+    requires b { HasRegister b.now }
+    ensures gives { result ≡ jalr_coded line a.now b.now }
+    ensures valid { IfOk result AreValid }
+{
+    let rd = register(a);
+    let rs1 = register(b);
+    let z = number(b);
+    one(
+        line,
+        z,
+        signed(2048, z).map(|imm| Instr::Jalr { rd, rs1, imm }),
+    )
+}
+
+fn load_coded(line: u32, op: LoadOp, a: &Operand, b: &Operand) -> Result<Coded, AsmFault>
+    requires a { HasRegister a.now }
+    requires b { HasRegister b.now }
+    ensures gives { result ≡ load_coded line op a.now b.now }
+    ensures valid { IfOk result AreValid }
+{
+    let rd = register(a);
+    let rs1 = register(b);
+    let z = number(b);
+    one(
+        line,
+        z,
+        signed(2048, z).map(|imm| Instr::Load { op, rd, rs1, imm }),
+    )
+}
+
+fn store_coded(line: u32, op: StoreOp, a: &Operand, b: &Operand) -> Result<Coded, AsmFault>
+    requires a { HasRegister a.now }
+    requires b { HasRegister b.now }
+    ensures gives { result ≡ store_coded line op a.now b.now }
+    ensures valid { IfOk result AreValid }
+{
+    let rs1 = register(b);
+    let rs2 = register(a);
+    let z = number(b);
+    one(
+        line,
+        z,
+        signed(2048, z).map(|imm| Instr::Store { op, rs1, rs2, imm }),
+    )
+}
+
+fn imm_coded(line: u32, op: ImmOp, a: &Operand, b: &Operand, c: &Operand) -> Result<Coded, AsmFault>
+    requires a { HasRegister a.now }
+    requires b { HasRegister b.now }
+    ensures gives { result ≡ imm_coded line op a.now b.now c.now }
+    ensures valid { IfOk result AreValid }
+{
+    let rd = register(a);
+    let rs1 = register(b);
+    let z = number(c);
+    one(
+        line,
+        z,
+        signed(2048, z).map(|imm| Instr::Imm { op, rd, rs1, imm }),
+    )
+}
+
+fn shift_coded(
+    line: u32,
+    op: ShiftOp,
+    a: &Operand,
+    b: &Operand,
+    c: &Operand,
+) -> Result<Coded, AsmFault>
+    requires a { HasRegister a.now }
+    requires b { HasRegister b.now }
+    ensures gives { result ≡ shift_coded line op a.now b.now c.now }
+    ensures valid { IfOk result AreValid }
+{
+    let rd = register(a);
+    let rs1 = register(b);
+    let z = number(c);
+    let amount = below(amount_bound(op), z);
+    one(
+        line,
+        z,
+        amount.map(|amount| Instr::Shift {
+            op,
+            rd,
+            rs1,
+            amount: amount as u8,
+        }),
+    )
+}
+
+fn branch_coded(
+    labels: &Labels,
+    site: Site,
+    op: BranchOp,
+    a: &Operand,
+    b: &Operand,
+    c: &Operand,
+) -> Result<Coded, AsmFault>
+    requires a { HasRegister a.now }
+    requires b { HasRegister b.now }
+    ensures gives { result ≡ branch_coded labels.now site op a.now b.now c.now }
+    ensures valid { IfOk result AreValid }
+{
+    let rs1 = register(a);
+    let rs2 = register(b);
+    let z = offset_to(labels, site, c)?;
+    one(
+        site.line,
+        z,
+        even(4096, z).map(|offset| Instr::Branch {
+            op,
+            rs1,
+            rs2,
+            offset,
+        }),
+    )
+}
+
+fn la_coded(labels: &Labels, line: u32, a: &Operand, b: &Operand) -> Result<Coded, AsmFault>
+    requires { HasRegister a.now }
+    ensures gives { result ≡ la_coded labels.now line a.now b.now }
+    ensures valid { IfOk result AreValid }
+{
+    let rd = register(a);
+    Ok(pair(rd, address_of(labels, line, b)?))
+}
+
 /// The instructions of a kind, with the operands at its places.
 #[tactic(auto, unfolding(crate::specs::Encode::coded))]
 fn coded(
@@ -112,110 +255,30 @@ fn coded(
 {
     let line = site.line;
     match kind {
-        Kind::Upper(op) => {
-            let rd = register(a);
-            let z = number(b);
-            one(
-                line,
-                z,
-                below(1048576, z).map(|imm| Instr::Upper { op, rd, imm }),
-            )
-        }
+        Kind::Upper(op) => upper_coded(line, op, a, b),
         Kind::Jal => jump(labels, site, register(a), b),
-        Kind::Jalr => {
-            let rd = register(a);
-            let rs1 = register(b);
-            let z = number(b);
-            one(
-                line,
-                z,
-                signed(2048, z).map(|imm| Instr::Jalr { rd, rs1, imm }),
-            )
-        }
-        Kind::Branch(op) => {
-            let rs1 = register(a);
-            let rs2 = register(b);
-            let z = offset_to(labels, site, c)?;
-            one(
-                line,
-                z,
-                even(4096, z).map(|offset| Instr::Branch {
-                    op,
-                    rs1,
-                    rs2,
-                    offset,
-                }),
-            )
-        }
-        Kind::Load(op) => {
-            let rd = register(a);
-            let rs1 = register(b);
-            let z = number(b);
-            one(
-                line,
-                z,
-                signed(2048, z).map(|imm| Instr::Load { op, rd, rs1, imm }),
-            )
-        }
-        Kind::Store(op) => {
-            let rs1 = register(b);
-            let rs2 = register(a);
-            let z = number(b);
-            one(
-                line,
-                z,
-                signed(2048, z).map(|imm| Instr::Store { op, rs1, rs2, imm }),
-            )
-        }
-        Kind::Imm(op) => {
-            let rd = register(a);
-            let rs1 = register(b);
-            let z = number(c);
-            one(
-                line,
-                z,
-                signed(2048, z).map(|imm| Instr::Imm { op, rd, rs1, imm }),
-            )
-        }
-        Kind::Shift(op) => {
-            let rd = register(a);
-            let rs1 = register(b);
-            let z = number(c);
-            one(
-                line,
-                z,
-                below(amount_bound(op), z).map(|amount| Instr::Shift {
-                    op,
-                    rd,
-                    rs1,
-                    amount: amount as u8,
-                }),
-            )
-        }
-        Kind::Reg(op) => {
-            let rd = register(a);
-            let rs1 = register(b);
-            let rs2 = register(c);
-            Ok(Coded::One(Instr::Reg { op, rd, rs1, rs2 }))
-        }
+        Kind::Jalr => jalr_coded(line, a, b),
+        Kind::Branch(op) => branch_coded(labels, site, op, a, b, c),
+        Kind::Load(op) => load_coded(line, op, a, b),
+        Kind::Store(op) => store_coded(line, op, a, b),
+        Kind::Imm(op) => imm_coded(line, op, a, b, c),
+        Kind::Shift(op) => shift_coded(line, op, a, b, c),
+        Kind::Reg(op) => Ok(Coded::One(Instr::Reg {
+            op,
+            rd: register(a),
+            rs1: register(b),
+            rs2: register(c),
+        })),
         Kind::Alone(instr) => Ok(Coded::One(instr)),
-        Kind::Move => {
-            let op = ImmOp::Addi;
-            let rd = register(a);
-            let rs1 = register(b);
-            Ok(Coded::One(Instr::Imm {
-                op,
-                rd,
-                rs1,
-                imm: 0,
-            }))
-        }
+        Kind::Move => Ok(Coded::One(Instr::Imm {
+            op: ImmOp::Addi,
+            rd: register(a),
+            rs1: register(b),
+            imm: 0,
+        })),
         Kind::Jump => jump(labels, site, 0, a),
         Kind::Li => li_coded(line, register(a), number(b)),
-        Kind::La => {
-            let rd = register(a);
-            Ok(pair(rd, address_of(labels, line, b)?))
-        }
+        Kind::La => la_coded(labels, line, a, b),
     }
 }
 

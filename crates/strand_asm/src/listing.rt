@@ -1,8 +1,9 @@
-ghost use Rattle.std.specs.Prelude.{◌≡◌, ◌+◌, ◌++◌, ◌<◌, ◌≤◌, ◌∷◌, [], ℕ, codes, decimal, drop, length, map, slice_index, OnOk};
+ghost use Rattle.std.specs.Prelude.{◌≡◌, ◌+◌, ◌++◌, ◌<◌, ◌≤◌, ◌∷◌, [], ℕ, codes, decimal, drop, length, slice_index, Ok, OnOk};
 ghost use Rattle.strand_base.specs.Hexadecimal.{hex16};
 ghost use Rattle.strand_base.specs.Puts.{Puts};
 ghost use Rattle.strand_isa.specs.Print.{instr_text};
 ghost use Rattle.strand_isa.specs.Word.{IsValid};
+ghost use Rattle.strand_asm.specs.Assemble.{assembled};
 ghost use Rattle.strand_asm.specs.Listing.{IsDecoded, code_lines, code_text, data_lines, entry_lines, entry_text, lines_text, listing, space_text, text_or, word_text};
 
 use strand_base::{OutOfMemory, hex_digits, print_decimal, put};
@@ -164,9 +165,10 @@ fn put_sections(into: &mut Vec<u8>, volatile: &[u64], persistent: &[u64]) -> Res
 
 /// Appends the listing of an image: an assembler text with `.entry` for each core, and then the sections
 /// with a line for each code word, for each longest run of data words of 0 and for each other data word.
-/// Where memory ran out, a front of it is appended.
+/// Where memory ran out, a front of it is appended. The assembly of the listing is the image again.
 pub fn list(image: &Image, into: &mut Vec<u8>) -> Result<(), OutOfMemory>
-    ensures { Puts result (listing image.now) into.old.items into.new.items }
+    ensures text { Puts result (listing image.now) into.old.items into.new.items }
+    ensures again { OnOk result (assembled (listing image.now) ≡ Ok image.now) }
 {
     put_front(into, image.entries(), image.code())?;
     put_sections(into, image.volatile(), image.persistent())

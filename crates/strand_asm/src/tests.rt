@@ -70,9 +70,11 @@ fn each_fault_is_found(rt: HostRuntime) {
     let duplicate = AsmFault::Duplicate { line: 3, first: 1 };
     let undefined = |line| AsmFault::Undefined { line };
     let cases = [
+        ("frob", kind(1, LineKind::UnknownName)),
         ("j a\nfrob\n", kind(2, LineKind::UnknownName)),
         ("nop\n.persist\nnop", kind(3, LineKind::UnknownName)),
         (".space 1", kind(1, LineKind::UnknownName)),
+        ("a:\na:", AsmFault::Duplicate { line: 2, first: 1 }),
         ("a:\n.volatile\na: .word 1", duplicate),
         ("a:\n.volatile\na: nop", kind(3, LineKind::UnknownName)),
         ("", limit(Quantity::Code, 0)),
@@ -85,9 +87,11 @@ fn each_fault_is_found(rt: HostRuntime) {
             limit(Quantity::Volatile, 131_073),
         ),
         ("j b", limit(Quantity::Persistent, 0)),
+        ("j b\n.persist\n.space 1", undefined(1)),
         ("nop\nj b\n.persist\nb: .word 1", undefined(2)),
         ("la x1, b\n.persist\n.word 1", undefined(1)),
         ("lui x1, 1048576\n.persist\n.word 1", range(1, 1_048_576)),
+        ("addi x1, x0, 2048\n.persist\n.space 1", range(1, 2048)),
         ("addi x1, x1, -2049\n.persist\n.word 1", range(1, -2049)),
         ("slliw x1, x1, 32\n.persist\n.word 1", range(1, 32)),
         (

@@ -1,5 +1,5 @@
 -- The text of each instruction: its word, and behind a space its operands with a comma and a space between.
-use Rattle.std.specs.Prelude.{◌≡◌, ℕ, ◌==◌, pos, Bool, true, false, List, [], ◌∷◌, ◌++◌, drop, min, not, Option, Some, None, Result, Ok, Err, if◌then◌else◌}
+use Rattle.std.specs.Prelude.{ℤ, ◌≡◌, ℕ, ◌==◌, pos, Bool, true, false, List, [], ◌∷◌, ◌++◌, drop, min, not, Option, Some, None, Result, Ok, Err, if◌then◌else◌}
 use Rattle.std.specs.Fmt.{decimal, signed_decimal}
 use lib.Chars.{codes}
 use Rattle.std.specs.List.{position_or_len}
@@ -90,33 +90,42 @@ reg_name Sraw = codes "sraw"
 unfoldable pub short_hex : ℕ → List ℕ
 short_hex n = drop (min (position_or_len (λ d. not (d == 48)) (hex16 n)) 15) (hex16 n)
 
--- an operand: a register, the field of an upper immediate, a number, or a place in memory
+-- operands: a register, the field of an upper immediate, and a place in memory
+abbrev pub register_text : ℕ → List ℕ
+register_text n = 120 ∷ decimal n
+
+abbrev pub field_text : ℕ → List ℕ
+field_text n = 48 ∷ 120 ∷ short_hex n
+
+abbrev pub memory_text : ℤ → ℕ → List ℕ
+memory_text offset base = signed_decimal offset ++ 40 ∷ 120 ∷ (decimal base ++ 41 ∷ [])
+
 abbrev pub part_text : Part → List ℕ
-part_text (Register n) = 120 ∷ decimal n
-part_text (Field n) = 48 ∷ 120 ∷ short_hex n
+part_text (Register n) = register_text n
+part_text (Field n) = field_text n
 part_text (Number z) = signed_decimal z
-part_text (Memory offset base) = signed_decimal offset ++ 40 ∷ 120 ∷ (decimal base ++ 41 ∷ [])
+part_text (Memory offset base) = memory_text offset base
 
-abbrev pub one : List ℕ → Part → List ℕ
-one name a = name ++ 32 ∷ part_text a
+abbrev pub one : List ℕ → List ℕ → List ℕ
+one name a = name ++ 32 ∷ a
 
-abbrev pub two : List ℕ → Part → Part → List ℕ
-two name a b = one name a ++ 44 ∷ 32 ∷ part_text b
+abbrev pub two : List ℕ → List ℕ → List ℕ → List ℕ
+two name a b = one name a ++ 44 ∷ 32 ∷ b
 
-abbrev pub three : List ℕ → Part → Part → Part → List ℕ
-three name a b c = two name a b ++ 44 ∷ 32 ∷ part_text c
+abbrev pub three : List ℕ → List ℕ → List ℕ → List ℕ → List ℕ
+three name a b c = two name a b ++ 44 ∷ 32 ∷ c
 
 -- None where no text stands for the instruction: a fence other than the one that 'fence' is
 unfoldable pub instr_text : Instr → Option (List ℕ)
-instr_text (Upper op rd imm) = Some (two (upper_name op) (Register rd) (Field imm))
-instr_text (Jal rd offset) = Some (two (codes "jal") (Register rd) (Number offset))
-instr_text (Jalr rd rs1 imm) = Some (two (codes "jalr") (Register rd) (Memory imm rs1))
-instr_text (Branch op rs1 rs2 offset) = Some (three (branch_name op) (Register rs1) (Register rs2) (Number offset))
-instr_text (Load op rd rs1 imm) = Some (two (load_name op) (Register rd) (Memory imm rs1))
-instr_text (Store op rs1 rs2 imm) = Some (two (store_name op) (Register rs2) (Memory imm rs1))
-instr_text (Imm op rd rs1 imm) = Some (three (imm_name op) (Register rd) (Register rs1) (Number imm))
-instr_text (Shift op rd rs1 amount) = Some (three (shift_name op) (Register rd) (Register rs1) (Number (pos amount)))
-instr_text (Reg op rd rs1 rs2) = Some (three (reg_name op) (Register rd) (Register rs1) (Register rs2))
+instr_text (Upper op rd imm) = Some (two (upper_name op) (register_text rd) (field_text imm))
+instr_text (Jal rd offset) = Some (two (codes "jal") (register_text rd) (signed_decimal offset))
+instr_text (Jalr rd rs1 imm) = Some (two (codes "jalr") (register_text rd) (memory_text imm rs1))
+instr_text (Branch op rs1 rs2 offset) = Some (three (branch_name op) (register_text rs1) (register_text rs2) (signed_decimal offset))
+instr_text (Load op rd rs1 imm) = Some (two (load_name op) (register_text rd) (memory_text imm rs1))
+instr_text (Store op rs1 rs2 imm) = Some (two (store_name op) (register_text rs2) (memory_text imm rs1))
+instr_text (Imm op rd rs1 imm) = Some (three (imm_name op) (register_text rd) (register_text rs1) (signed_decimal imm))
+instr_text (Shift op rd rs1 amount) = Some (three (shift_name op) (register_text rd) (register_text rs1) (decimal amount))
+instr_text (Reg op rd rs1 rs2) = Some (three (reg_name op) (register_text rd) (register_text rs1) (register_text rs2))
 instr_text (Fence rd rs1 bits) = if word_of (Fence rd rs1 bits) == 0x0ff0000f then Some (codes "fence") else None
 instr_text Ecall = Some (codes "ecall")
 instr_text Ebreak = Some (codes "ebreak")

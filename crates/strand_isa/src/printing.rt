@@ -118,28 +118,28 @@ fn put_name(into: &mut Vec<u8>, name: &str) -> Result<(), OutOfMemory>
 }
 
 fn put_one(into: &mut Vec<u8>, name: &str, a: Part) -> Result<(), OutOfMemory>
-    ensures { Puts result (one name.now a) into.old.items into.new.items }
+    ensures { Puts result (one name.now (part_text a)) into.old.items into.new.items }
 {
     put_name(into, name)?;
     put_behind(into, b" ", a)
 }
 
 fn put_two(into: &mut Vec<u8>, name: &str, a: Part, b: Part) -> Result<(), OutOfMemory>
-    ensures { Puts result (two name.now a b) into.old.items into.new.items }
+    ensures { Puts result (two name.now (part_text a) (part_text b)) into.old.items into.new.items }
 {
     put_one(into, name, a)?;
     put_behind(into, b", ", b)
 }
 
 fn put_three(into: &mut Vec<u8>, name: &str, a: Part, b: Part, c: Part) -> Result<(), OutOfMemory>
-    ensures { Puts result (three name.now a b c) into.old.items into.new.items }
+    ensures { Puts result (three name.now (part_text a) (part_text b) (part_text c)) into.old.items into.new.items }
 {
     put_two(into, name, a, b)?;
     put_behind(into, b", ", c)
 }
 
 fn print_two(into: &mut Vec<u8>, name: &str, a: Part, b: Part) -> Result<bool, OutOfMemory>
-    ensures { Prints result (Some (two name.now a b)) into.old.items into.new.items }
+    ensures { Prints result (Some (two name.now (part_text a) (part_text b))) into.old.items into.new.items }
 {
     put_two(into, name, a, b)?;
     Ok(true)
@@ -152,7 +152,7 @@ fn print_three(
     b: Part,
     c: Part,
 ) -> Result<bool, OutOfMemory>
-    ensures { Prints result (Some (three name.now a b c)) into.old.items into.new.items }
+    ensures { Prints result (Some (three name.now (part_text a) (part_text b) (part_text c))) into.old.items into.new.items }
 {
     put_three(into, name, a, b, c)?;
     Ok(true)

@@ -1,4 +1,4 @@
-use Rattle.std.proofs.Common.{◌≡◌, ◌≤◌, ◌+◌, ◌-◌, ◌*◌, length, drop}
+use Rattle.std.proofs.Common.{◌≡◌, ◌≤◌, ◌+◌, ◌-◌, length, drop}
 use Rattle.strand_base.specs.Text.{lines_of}
 use Rattle.strand_asm.specs.Layout.{over_lines}
 use Rattle.strand_asm.specs.Draft.{draft_of, drafted}

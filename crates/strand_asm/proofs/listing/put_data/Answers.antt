@@ -1,4 +1,4 @@
-use Rattle.std.proofs.Common.{◌≡◌, ◌+◌, ◌++◌, ◌∷◌, [], ℕ, List, subst, drop, get_or, arith, ap, sym, ◌∙◌}
+use Rattle.std.proofs.Common.{◌+◌, ◌++◌, ◌∷◌, [], ℕ, List, subst, drop, get_or, arith}
 use Rattle.std.proofs.lemmas.Result.{err_from_is_err_and}
 use Rattle.strand_base.proofs.Fronts.{SoFar, puts_after, so_far_more, so_far_none, so_far_stops}
 use Rattle.strand_asm.specs.Listing.{data_lines, lines_text, space_text, word_text}

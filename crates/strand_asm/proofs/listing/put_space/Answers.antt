@@ -1,4 +1,3 @@
-use Rattle.std.proofs.Common.{sym, ap, ◌++◌, ◌∙◌}
 use Rattle.std.proofs.lemmas.List.{append-nil}
 use Rattle.strand_asm.proofs.Lists.{no_space, some_space}
 use Rattle.strand_asm.proofs.listing.put_space.Goals as goal
