@@ -1,7 +1,7 @@
 ghost use Rattle.std.specs.Prelude.{◌≡◌};
 ghost use Rattle.strand_app.specs.StatusCode.{code_of};
 
-/// How a call ended (docs/program.md). The first path answers `Ok`, `Words`, `Input`, `FileFault`,
+/// How a call ended (docs/program.md). Today's commands answer `Ok`, `Words`, `Input`, `FileFault`,
 /// `SinkFault`, `ModuleFault` and `Memory`.
 #[derive(Clone, Copy, Debug, PartialEq, Eq)]
 pub enum Status {
