@@ -1,4 +1,4 @@
--- Reading a schedule of the first path line by line.
+-- Reading a schedule of lines of four bytes.
 use Rattle.std.proofs.Common.{◌≡◌, ℕ, suc, ◌<◌, ◌≤◌, true, false, List, [], ◌∷◌, ◌++◌, length, take, drop, refl, sym, ap, arith, append_assoc, append-nil, length-append}
 use Rattle.std.specs.Prelude.{nat_lt, ◌==◌, None, Some}
 use Rattle.std.specs.declared.option.Option.{Option}
