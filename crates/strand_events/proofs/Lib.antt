@@ -6,3 +6,4 @@ pub mod Consequences
 pub mod Marking
 pub mod Kept
 mod Rows
+pub mod Within
