@@ -7,3 +7,4 @@ pub mod Marking
 pub mod Kept
 pub mod Joins
 mod Rows
+pub mod Within

@@ -3,15 +3,15 @@ use Rattle.std.proofs.Common.{◌≡◌, ℕ, suc, ◌<◌, ◌≤◌, Bool, tru
 use Rattle.std.specs.Prelude.{slice_get}
 use Rattle.std.proofs.lemmas.Bool.{cases_eq, cases_lt, cases_Bool, both_ways}
 use Rattle.std.proofs.lemmas.List.{get_or_past, get_or-set_other, get_or-set_same, length-set}
-use Rattle.std.proofs.lemmas.Option.{slice_get-get_or, slice_get_within}
-use Rattle.std.proofs.Math.ListN.{get_or, set}
+use Rattle.std.proofs.lemmas.Option.{slice_get_within}
+use Rattle.std.proofs.Math.ListN.{set}
 use Rattle.strand_inputs.specs.declared.mode.Mode.{Mode}
 use Rattle.strand_events.specs.declared.event.Event.{Event}
 use Rattle.strand_events.specs.Order.{Set, held}
 use Rattle.strand_order.specs.declared.edge.Edge.{Edge}
 use Rattle.strand_order.specs.Graph.{is_edge}
 use Rattle.strand_order.specs.Edges.{edges_of, edge_from}
-use Rattle.strand_order.proofs.Listed.{listed_edge, edge_listed, listed_in_order}
+use Rattle.strand_order.proofs.Listed.{listed_edge, edge_listed, listed_in_order, ends_within}
 use Rattle.strand_order.proofs.GraphSound.{edge_less}
 use Rattle.strand_judge.specs.Closing.{Closes, IsAtOrLeadsTo}
 
@@ -104,19 +104,10 @@ module _ (mode : Mode) (t : List Event) where
     reached = c.reached;
   }
 
-  -- the edge at a place of the list
-  pub edge_at : (es : List Edge) → es ≡ edges_of mode t → (k : ℕ) (d : Edge) → k < length es → slice_get (edges_of mode t) k ≡ Some (get_or es k d)
-  edge_at es same k d lt = sym (ap (λ xs. slice_get xs k) same) ∙ slice_get-get_or es k d lt
-
-  pub edge_within : (k : ℕ) (e : Edge) → slice_get (edges_of mode t) k ≡ Some e → (e.before < length t) × (e.after < length t)
-  edge_within k e at =
-      let edge = listed_edge mode t (length t) k e at in
-      (omega (arith, edge.1, edge_less mode t e.before e.after edge.0), edge.1)
-
   -- an edge was followed
   pub closed_step : (k m : ℕ) (e : Edge) (old : Set) (marks new : List Bool) → k ≡ suc m → slice_get (edges_of mode t) m ≡ Some e → length marks ≡ length t → new ≡ cond (held marks e.after) (set marks e.before true) marks → ClosedFrom mode t k old (held marks) → ClosedFrom mode t m old (held new)
   closed_step k m e old marks new is at long made c =
-      let within = edge_within m e at in
+      let within = ends_within mode t m e at in
       let whole : ClosedFrom mode t (suc m) old (held marks) = subst (λ x. ClosedFrom mode t x old (held marks)) is c in
       elim (cases_Bool (held marks e.after)) [
         | inl on ↦

@@ -9,7 +9,7 @@ use Rattle.strand_events.specs.Trace.{is_persist, word_at, value_at, event_is}
 use Rattle.strand_events.specs.Order.{Set, IsDownwardClosed, sets_word, image_below, image}
 use Rattle.strand_judge.specs.Judged.{IsAllowed, Crash, Agrees, Offers, IsJudged, IsSettled, IsWithin, both, all_persists}
 use Rattle.strand_base.proofs.Counting.{any_true, any_false, at_or_below}
-use Rattle.strand_judge.proofs.Within.{event_within}
+use Rattle.strand_events.proofs.Within.{event_within}
 use Rattle.strand_events.proofs.Images.{closed_word, image_yes, image_no, image_alike}
 
 -- a persist of the word that is in the one set and not in the other

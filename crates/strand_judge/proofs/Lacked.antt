@@ -9,7 +9,7 @@ use Rattle.strand_judge.specs.Judged.{Offers}
 use Rattle.strand_judge.specs.Words.{address, place_of, crash_of, LieIn}
 use Rattle.strand_judge.specs.Forcing.{at_word, IsImage, is_lacking, LacksNone, LacksFirst}
 use Rattle.strand_judge.specs.Lacking.{Lacks, LacksNothing}
-use Rattle.strand_judge.proofs.Within.{event_within}
+use Rattle.strand_events.proofs.Within.{event_within}
 
 module _ (t : List Event) (all : Set) (first found values : List ℕ) (same : length first ≡ length found) (i : IsImage t all first values) where
   -- a word of the crash image, by its place

@@ -1,4 +1,3 @@
-pub mod Within
 pub mod Judged
 pub mod Followed
 pub mod Numbered

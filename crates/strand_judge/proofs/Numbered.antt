@@ -9,7 +9,7 @@ use Rattle.strand_events.specs.Trace.{is_persist, is_join, core_at, event_is, pe
 use Rattle.strand_events.specs.Order.{is_joined, stands_between}
 use Rattle.strand_events.specs.Numbers.{numbers_of}
 use Rattle.strand_order.proofs.Listed.{list_has}
-use Rattle.strand_judge.proofs.Within.{event_within}
+use Rattle.strand_events.proofs.Within.{event_within}
 
 module _ (t : List Event) where
   pub joined_persist : (k : ℕ) → is_joined t k ≡ true → event_is is_persist t k ≡ true

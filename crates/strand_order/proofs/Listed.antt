@@ -3,14 +3,16 @@ use Rattle.std.proofs.Common.{◌≡◌, ℕ, zero, suc, ◌+◌, ◌-◌, ◌<�
 use Rattle.std.specs.Prelude.{slice_get, Bool, ◌||◌, nat_lt}
 use Rattle.std.specs.Option.{option_map}
 use Rattle.std.proofs.lemmas.Bool.{cases_eq, cases_lt, cases_Bool, and_parts, ltb-true}
-use Rattle.std.proofs.lemmas.Option.{slice_get_within, slice_get-map}
+use Rattle.std.proofs.lemmas.Option.{slice_get_within, slice_get-map, slice_get-get_or}
 use Rattle.strand_inputs.specs.declared.mode.Mode.{Mode}
 use Rattle.strand_base.specs.Counting.{list_below}
 use Rattle.strand_base.proofs.Counting.{list_get, get_last, get_more, at_or_below}
 use Rattle.strand_events.specs.declared.event.Event.{Event}
 use Rattle.strand_order.specs.declared.edge.Edge.{Edge}
+use Rattle.std.proofs.Math.ListN.{get_or}
+use Rattle.strand_order.proofs.GraphSound.{edge_less}
 use Rattle.strand_order.specs.Graph.{is_edge, word_edge, core_edge}
-use Rattle.strand_order.specs.Edges.{edge_from, edges_to, edges_below}
+use Rattle.strand_order.specs.Edges.{edge_from, edges_to, edges_below, edges_of}
 
 none_some : {X : Type 0} (x : X) → None ≡ Some x → ⊥
 none_some x e = absurd cc
@@ -114,3 +116,12 @@ module _ (mode : Mode) (t : List Event) where
       | inr (far, here) ↦ omega (arith, here.to, here'.to)
     ]
   ]
+
+  -- the edge at a place of the list, and its ends
+  pub edge_at : (es : List Edge) → es ≡ edges_of mode t → (k : ℕ) (d : Edge) → k < length es → slice_get (edges_of mode t) k ≡ Some (get_or es k d)
+  edge_at es same k d lt = sym (ap (λ xs. slice_get xs k) same) ∙ slice_get-get_or es k d lt
+
+  pub ends_within : (k : ℕ) (e : Edge) → slice_get (edges_of mode t) k ≡ Some e → (e.before < length t) × (e.after < length t)
+  ends_within k e at =
+      let edge = listed_edge (length t) k e at in
+      (omega (arith, edge.1, edge_less mode t e.before e.after edge.0), edge.1)

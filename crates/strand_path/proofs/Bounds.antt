@@ -15,7 +15,7 @@ use Rattle.strand_order.proofs.GraphComplete.{before_path, then_edge}
 use Rattle.strand_order.proofs.Listed.{list_has}
 use Rattle.strand_path.specs.Chains.{IsChain, events_of}
 use Rattle.strand_path.specs.Checked.{IsRoute, number_of, numbers_on, AreLevels, greatest_below}
-use Rattle.strand_path.proofs.Ends.{event_within}
+use Rattle.strand_events.proofs.Within.{event_within}
 
 -- no level is above the greatest
 pub greatest_most : (t : List Event) (levels : List ℕ) (n p : ℕ) → p < n → event_is is_persist t p ≡ true → slice_index levels p ≤ greatest_below t levels n

@@ -1,23 +1,18 @@
 -- What the edges of the list say of a route and of levels.
 use Rattle.std.proofs.Common.{◌≡◌, ℕ, ◌+◌, ◌<◌, ◌≤◌, Bool, true, false, inl, inr, List, length, Some, refl, sym, ap, ◌∙◌, arith, subst}
 use Rattle.std.specs.Prelude.{slice_get, ◌==◌}
-use Rattle.std.proofs.Math.ListN.{get_or}
 use Rattle.std.proofs.lemmas.Bool.{cases_eq, and_parts, and_from, eqb-true, eq-eqb, both_ways, false_from_ne_true}
-use Rattle.std.proofs.lemmas.Option.{slice_get-get_or, slice_get_within}
+use Rattle.std.proofs.lemmas.Option.{slice_get_within}
 use Rattle.strand_inputs.specs.declared.mode.Mode.{Mode}
 use Rattle.strand_events.specs.declared.event.Event.{Event}
 use Rattle.strand_order.specs.declared.edge.Edge.{Edge}
 use Rattle.strand_order.specs.Graph.{is_edge}
 use Rattle.strand_order.specs.Edges.{edges_of, edge_from}
 use Rattle.strand_order.proofs.Listed.{listed_edge, edge_listed}
-use Rattle.strand_order.proofs.GraphSound.{edge_less}
 use Rattle.strand_path.specs.Checked.{is_from_to, goes_up}
-use Rattle.strand_path.proofs.Ends.{edge_within}
+use Rattle.strand_order.proofs.Ends.{edge_within}
 
 module _ (mode : Mode) (t : List Event) where
-  pub edge_at : (es : List Edge) → es ≡ edges_of mode t → (k : ℕ) (d : Edge) → k < length es → slice_get (edges_of mode t) k ≡ Some (get_or es k d)
-  edge_at es same k d lt = sym (ap (λ xs. slice_get xs k) same) ∙ slice_get-get_or es k d lt
-
   -- what holds of the first edges and of the next one
   pub one_more : (test : Edge → Bool) (b : Bool) (n : ℕ) (e : Edge) → slice_get (edges_of mode t) n ≡ Some e → test e ≡ b → ((m : ℕ) (f : Edge) → m < n → slice_get (edges_of mode t) m ≡ Some f → test f ≡ b) → (m : ℕ) (f : Edge) → m < n + 1 → slice_get (edges_of mode t) m ≡ Some f → test f ≡ b
   one_more test b n e at here before m f lt at' = elim (cases_eq m n) [
@@ -39,11 +34,6 @@ module _ (mode : Mode) (t : List Event) where
       let at = edge_listed mode t (length t) i j within h in
       let before : at.0 < n = omega (arith, all, slice_get_within (edges_of mode t) at.0 (edge_from j i) at.1) in
       both_ways (is_from_to (edge_from j i) i j) (none at.0 (edge_from j i) before at.1) (and_from (i == i) (j == j) (eq-eqb i i refl) (eq-eqb j j refl)))
-
-  pub ends_within : (k : ℕ) (e : Edge) → slice_get (edges_of mode t) k ≡ Some e → (e.before < length t) × (e.after < length t)
-  ends_within k e at =
-      let edge = listed_edge mode t (length t) k e at in
-      (omega (arith, edge.1, edge_less mode t e.before e.after edge.0), edge.1)
 
   -- levels rise along every edge where they do along those of the list
   pub all_rise : (n : ℕ) (levels : List ℕ) → length (edges_of mode t) ≤ n → ((m : ℕ) (e : Edge) → m < n → slice_get (edges_of mode t) m ≡ Some e → goes_up t levels e.before e.after ≡ true) → (i j : ℕ) → is_edge mode t i j ≡ true → goes_up t levels i j ≡ true

@@ -13,7 +13,7 @@ use Rattle.strand_path.specs.Checked.{AreLevels, number_of}
 use Rattle.strand_path.specs.Chosen.{IsLevel, IsChosen}
 use Rattle.strand_path.specs.Building.{AreSupported}
 use Rattle.strand_path.specs.Picking.{ArePicked}
-use Rattle.strand_path.proofs.Ends.{event_within}
+use Rattle.strand_events.proofs.Within.{event_within}
 use Rattle.strand_path.proofs.Bounds.{path_lt, access, greatest_most, number_again}
 
 module _ (mode : Mode) (t : List Event) where

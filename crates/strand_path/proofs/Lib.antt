@@ -1,4 +1,3 @@
-pub mod Ends
 pub mod Edged
 pub mod Along
 pub mod Bounds

@@ -9,11 +9,10 @@ use Rattle.strand_events.specs.declared.event.Event.{Event}
 use Rattle.strand_order.specs.declared.edge.Edge.{Edge}
 use Rattle.strand_order.specs.Graph.{is_edge, Path}
 use Rattle.strand_order.specs.Edges.{edges_of, edge_from}
-use Rattle.strand_order.proofs.Listed.{listed_edge, edge_listed, listed_in_order}
+use Rattle.strand_order.proofs.Listed.{listed_edge, edge_listed, listed_in_order, ends_within}
 use Rattle.strand_order.proofs.GraphSound.{edge_less}
 use Rattle.strand_path.specs.Building.{leads_on, is_on, AreWays}
-use Rattle.strand_path.proofs.Ends.{edge_within}
-use Rattle.strand_path.proofs.Edged.{ends_within}
+use Rattle.strand_order.proofs.Ends.{edge_within}
 
 pub on_within : (onto : List ℕ) (x : ℕ) → leads_on onto x ≡ true → x < length onto
 on_within onto x h = elim (cases_lt x (length onto)) [

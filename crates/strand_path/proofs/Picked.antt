@@ -11,7 +11,7 @@ use Rattle.strand_order.proofs.GraphSound.{edge_less}
 use Rattle.strand_path.specs.Checked.{greatest_below}
 use Rattle.strand_path.specs.Building.{leads_on, AreWays, Support}
 use Rattle.strand_path.specs.Picking.{is_of_level, is_on_way, IsFirst, IsSome, IsPick, ArePicked}
-use Rattle.strand_path.proofs.Ends.{event_within}
+use Rattle.strand_events.proofs.Within.{event_within}
 use Rattle.strand_path.proofs.Onto.{on_within}
 
 -- a first one is no later than any

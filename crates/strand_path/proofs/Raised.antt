@@ -10,13 +10,13 @@ use Rattle.strand_events.specs.Trace.{is_persist, event_is}
 use Rattle.strand_order.specs.declared.edge.Edge.{Edge}
 use Rattle.strand_order.specs.Graph.{is_edge, LeadsTo}
 use Rattle.strand_order.specs.Edges.{edges_of}
-use Rattle.strand_order.proofs.Listed.{listed_edge, listed_in_order}
+use Rattle.strand_order.proofs.Listed.{listed_edge, listed_in_order, ends_within}
 use Rattle.strand_order.proofs.GraphSound.{edge_less, path_less}
 use Rattle.strand_order.proofs.GraphComplete.{then_edge}
 use Rattle.strand_path.specs.Checked.{goes_up, AreLevels}
 use Rattle.strand_path.specs.Building.{own_level, AreOwn, raised, AreSupported}
-use Rattle.strand_path.proofs.Ends.{event_within}
-use Rattle.strand_path.proofs.Edged.{one_more, all_rise, ends_within}
+use Rattle.strand_events.proofs.Within.{event_within}
+use Rattle.strand_path.proofs.Edged.{one_more, all_rise}
 
 -- the level of event k came from a persist that leads to it, along an edge that was followed
 pub record Carried (mode : Mode) (t : List Event) (n : ℕ) (levels : List ℕ) (k : ℕ) : Type 0 where

@@ -12,7 +12,7 @@ use Rattle.strand_order.proofs.GraphComplete.{path_more}
 use Rattle.strand_path.specs.Checked.{IsRoute, number_of, numbers_on, AreLevels}
 use Rattle.strand_path.specs.Building.{leads_on, is_on, AreWays}
 use Rattle.strand_path.specs.Picking.{IsWalked}
-use Rattle.strand_path.proofs.Ends.{edge_within}
+use Rattle.strand_order.proofs.Ends.{edge_within}
 use Rattle.strand_path.proofs.Bounds.{path_lt, up_le}
 use Rattle.strand_path.proofs.Picked.{way_path}
 

@@ -1,7 +1,8 @@
 use Rattle.std.proofs.Common.{◌≡◌, ◌-◌, ◌∙◌, suc, length, ap, sym, subst, arith}
 use Rattle.strand_events.specs.Order.{held}
 use Rattle.strand_order.specs.Edges.{edges_of}
-use Rattle.strand_judge.proofs.Followed.{closed_none, edge_at, edge_within, closed_step, closed_all, followed_long, ClosedFrom}
+use Rattle.strand_order.proofs.Listed.{edge_at, ends_within}
+use Rattle.strand_judge.proofs.Followed.{closed_none, closed_step, closed_all, followed_long, ClosedFrom}
 use Rattle.strand_judge.proofs.closing.close.Goals as goal
 
 pub loop-k-init : goal.loop-k-init
@@ -16,14 +17,14 @@ follow-requires-clause-before c =
     let mode = c.args.graph.now.mode in
     let t = c.args.graph.now.events in
     let at = edge_at mode t c.edges-edges.result.now c.edges-edges.ensures (c.loop-k.k - 1) (record { before = 0; after = 0 }) (omega (arith, c.loop-k.invariant.within, ap length c.edges-edges.ensures, c.loop-k-test.true)) in
-    omega (arith, (edge_within mode t (c.loop-k.k - 1) _ at).0, c.loop-k.invariant.long)
+    omega (arith, (ends_within mode t (c.loop-k.k - 1) _ at).0, c.loop-k.invariant.long)
 
 pub follow-requires-clause-after : goal.follow-requires-clause-after
 follow-requires-clause-after c =
     let mode = c.args.graph.now.mode in
     let t = c.args.graph.now.events in
     let at = edge_at mode t c.edges-edges.result.now c.edges-edges.ensures (c.loop-k.k - 1) (record { before = 0; after = 0 }) (omega (arith, c.loop-k.invariant.within, ap length c.edges-edges.ensures, c.loop-k-test.true)) in
-    omega (arith, (edge_within mode t (c.loop-k.k - 1) _ at).1, c.loop-k.invariant.long)
+    omega (arith, (ends_within mode t (c.loop-k.k - 1) _ at).1, c.loop-k.invariant.long)
 
 pub loop-k-preserved : goal.loop-k-preserved
 loop-k-preserved c =

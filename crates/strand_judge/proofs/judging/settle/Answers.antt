@@ -7,7 +7,7 @@ use Rattle.strand_events.specs.Order.{Set, held}
 use Rattle.strand_judge.specs.Judged.{Crash}
 use Rattle.strand_judge.specs.Words.{crash_of}
 use Rattle.strand_judge.specs.Lacking.{Lacks, LacksNothing}
-use Rattle.strand_judge.proofs.Within.{event_within}
+use Rattle.strand_events.proofs.Within.{event_within}
 use Rattle.strand_judge.proofs.Followed.{still_marked, newly_marked}
 use Rattle.strand_judge.proofs.Gathered.{gathered_first, gathered_more, gathered_least}
 use Rattle.strand_judge.proofs.Fewer.{fewer_left}

@@ -1,7 +1,8 @@
 use Rattle.std.proofs.Common.{◌≤◌, false, length, sym, ap, ◌∙◌, arith}
 use Rattle.strand_order.specs.Edges.{edges_of}
 use Rattle.strand_path.specs.Checked.{is_from_to}
-use Rattle.strand_path.proofs.Edged.{edge_at, one_more, found, not_found}
+use Rattle.strand_order.proofs.Listed.{edge_at}
+use Rattle.strand_path.proofs.Edged.{one_more, found, not_found}
 use Rattle.strand_path.proofs.checking.has_edge.Goals as goal
 
 pub returns-then-is_from_to : goal.returns-then-is_from_to

@@ -2,10 +2,9 @@ use Rattle.std.proofs.Common.{◌≡◌, ◌≤◌, ◌+◌, length, subst, sym,
 use Rattle.std.specs.Prelude.{slice_index_or}
 use Rattle.strand_order.specs.declared.edge.Edge.{Edge}
 use Rattle.strand_order.specs.Edges.{edges_of}
-use Rattle.strand_order.proofs.Listed.{listed_edge}
+use Rattle.strand_order.proofs.Listed.{listed_edge, edge_at, ends_within}
 use Rattle.strand_order.proofs.GraphSound.{edge_less}
 use Rattle.strand_path.specs.Building.{AreOwn, raised}
-use Rattle.strand_path.proofs.Edged.{edge_at, ends_within}
 use Rattle.strand_path.proofs.Raised.{raised_first, raised_more, raised_levels, raised_supported, IsRaised}
 use Rattle.strand_path.proofs.levels.levels_of.Goals as goal
 

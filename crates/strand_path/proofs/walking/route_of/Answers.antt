@@ -1,7 +1,7 @@
 use Rattle.std.proofs.Common.{◌≡◌, ◌-◌, ◌<◌, inl, inr, suc, length, sym, arith}
 use Rattle.std.specs.Prelude.{◌==◌}
 use Rattle.std.proofs.lemmas.Bool.{cases_lt, both_ways, eq-eqb}
-use Rattle.strand_path.proofs.Ends.{event_within}
+use Rattle.strand_events.proofs.Within.{event_within}
 use Rattle.strand_path.proofs.Walked.{route_more, route_whole}
 use Rattle.strand_events.specs.Trace.{is_persist}
 use Rattle.strand_path.proofs.walking.route_of.Goals as goal

@@ -3,7 +3,7 @@ use Rattle.std.specs.Prelude.{slice_index}
 use Rattle.std.proofs.lemmas.List.{get_or-replicate, get_or_past, length-replicate}
 use Rattle.std.proofs.lemmas.Bool.{cases_lt}
 use Rattle.strand_order.specs.Edges.{edges_of}
-use Rattle.strand_path.proofs.Edged.{edge_at, ends_within}
+use Rattle.strand_order.proofs.Listed.{edge_at, ends_within}
 use Rattle.strand_path.proofs.Onto.{lead_none, lead_step, lead_all, LeadFrom}
 use Rattle.strand_path.proofs.ways.ways_to.Goals as goal
 

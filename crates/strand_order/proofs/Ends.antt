@@ -1,18 +1,14 @@
 -- Both ends of an edge are events of the trace.
-use Rattle.std.proofs.Common.{◌≡◌, ℕ, zero, suc, ◌<◌, Bool, true, inl, inr, List, [], ◌∷◌, length, arith}
+use Rattle.std.proofs.Common.{◌≡◌, ℕ, ◌<◌, true, inl, inr, List, length}
 use Rattle.std.specs.Prelude.{◌&&◌, ◌||◌, not, ◌==◌, nat_lt}
-use Rattle.std.proofs.lemmas.Bool.{false≢true, and_parts, or_cases}
+use Rattle.std.proofs.lemmas.Bool.{and_parts, or_cases}
 use Rattle.strand_inputs.specs.declared.mode.Mode.{Mode}
 use Rattle.strand_inputs.specs.declared.mode.Mode.TheVariants.{Strict, Epoch, Strand}
 use Rattle.strand_events.specs.declared.event.Event.{Event}
 use Rattle.strand_events.specs.Trace.{event_is, is_access, is_store, is_barrier, is_join, core_at, word_at, core_event_is}
+use Rattle.strand_events.proofs.Within.{event_within}
 use Rattle.strand_events.specs.Order.{conflicts, stands_between}
 use Rattle.strand_order.specs.Graph.{is_edge, word_edge, core_edge, gate_edge, join_edge, is_gate, since_gate, any_between, stores_word, access_or_join, drained_by}
-
-pub event_within : (test : Event → Bool) (t : List Event) (i : ℕ) → event_is test t i ≡ true → i < length t
-event_within test [] i h = absurd (false≢true h)
-event_within test (e ∷ t) zero h = omega arith
-event_within test (e ∷ t) (suc i) h = omega (arith, event_within test t i h)
 
 conflict_within : (t : List Event) (i j : ℕ) → conflicts t i j ≡ true → j < length t
 conflict_within t i j h =
