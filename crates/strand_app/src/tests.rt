@@ -203,42 +203,10 @@ fn each_end_of_a_conversion(rt: HostRuntime) -> Result<(), Fail> {
     let alloc = rt.alloc();
     check_bytes(&rt, alloc, "asm l", [0, 0], 0, Status::Ok, &PUTS_OUT)?;
     check(&rt, alloc, "list o", [0, 0], 0, Status::Ok, LISTED)?;
-    check(
-        &rt,
-        alloc,
-        "asm m",
-        [0, 0],
-        0,
-        Input,
-        "fault input 1\n",
-    )?;
-    check(
-        &rt,
-        alloc,
-        "list m",
-        [0, 0],
-        0,
-        Input,
-        "fault input 1\n",
-    )?;
-    check(
-        &rt,
-        alloc,
-        "asm x",
-        [0, 0],
-        0,
-        FileFault,
-        "fault file 1\n",
-    )?;
-    check(
-        &rt,
-        alloc,
-        "list x",
-        [0, 0],
-        0,
-        FileFault,
-        "fault file 1\n",
-    )?;
+    check(&rt, alloc, "asm m", [0, 0], 0, Input, "fault input 1\n")?;
+    check(&rt, alloc, "list m", [0, 0], 0, Input, "fault input 1\n")?;
+    check(&rt, alloc, "asm x", [0, 0], 0, FileFault, "fault file 1\n")?;
+    check(&rt, alloc, "list x", [0, 0], 0, FileFault, "fault file 1\n")?;
     check(
         &rt,
         alloc,
