@@ -57,6 +57,17 @@ core 0 pc 0000000010000010 halted\n\
 reg 0 x10 0000000000000007\n\
 out 0 0000000000000007\n";
 
+// The listing of PUTS_OUT.
+const LISTED: &str = ".entry 0\n.code\n\
+addi x10, x0, 7\n\
+addi x17, x0, 1\n\
+ecall\n\
+addi x17, x0, 0\n\
+ecall\n\
+.volatile\n\
+.persist\n\
+.space 1\n";
+
 const OTHER_CALL: &str = "stop 3\n\
 core 0 pc 0000000010000008 trap call 0000000000000002\n\
 reg 0 x10 0000000000000007\n\
@@ -80,12 +91,25 @@ fn check(
     status: Status,
     text: &str,
 ) -> Result<(), Fail> {
+    check_bytes(rt, alloc, line, calls, put, status, text.as_bytes())
+}
+
+fn check_bytes(
+    rt: &impl Abort,
+    alloc: Global,
+    line: &str,
+    calls: [u64; 2],
+    put: u64,
+    status: Status,
+    text: &[u8],
+) -> Result<(), Fail> {
     let mut files = MemoryFiles::new(alloc);
     files.add("m", MACHINE.as_bytes())?;
     files.add("i", &IMAGE)?;
     files.add("s", SCHEDULE.as_bytes())?;
     files.add("o", &PUTS_OUT)?;
     files.add("t", &CALLS_2)?;
+    files.add("l", LISTED.as_bytes())?;
     files.add("c", b"c 0\nc 0\nc 0\nc 0\nc 0\n")?;
     let mut out = MemorySink::new(alloc, 16, 1000)?;
     out.fail_at(put)?;
@@ -95,7 +119,7 @@ fn check(
     let mut bank = ModuleBank::single(part);
     let words = words_of(alloc, line)?;
     let end = strand_main(alloc, &words, &mut files, &mut out, &mut bank);
-    assert!(rt; end == status && out.bytes() == text.as_bytes(), "{line}");
+    assert!(rt; end == status && out.bytes() == text, "{line}");
     Ok(())
 }
 
@@ -171,5 +195,25 @@ fn each_end(rt: HostRuntime) -> Result<(), Fail> {
         0,
         ModuleFault,
         "fault module 0 read\n",
+    )
+}
+
+#[test]
+fn each_end_of_a_conversion(rt: HostRuntime) -> Result<(), Fail> {
+    let alloc = rt.alloc();
+    check_bytes(&rt, alloc, "asm l", [0, 0], 0, Status::Ok, &PUTS_OUT)?;
+    check(&rt, alloc, "list o", [0, 0], 0, Status::Ok, LISTED)?;
+    check(&rt, alloc, "asm m", [0, 0], 0, Input, "fault input 1\n")?;
+    check(&rt, alloc, "list m", [0, 0], 0, Input, "fault input 1\n")?;
+    check(&rt, alloc, "asm x", [0, 0], 0, FileFault, "fault file 1\n")?;
+    check(&rt, alloc, "list x", [0, 0], 0, FileFault, "fault file 1\n")?;
+    check(
+        &rt,
+        alloc,
+        "list o",
+        [0, 0],
+        2,
+        SinkFault,
+        ".entry 0\n.code\na",
     )
 }
