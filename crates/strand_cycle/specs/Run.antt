@@ -1,6 +1,5 @@
--- A run: the turns of a list of steps and the state at its end, where a store of the bank may have failed.
-use Rattle.std.specs.Prelude.{◌≡◌, ℕ, ◌-◌, ◌%◌, ◌≤◌, List, [], ◌∷◌, take, slice_get, Some, None}
-use Rattle.std.specs.declared.option.Option.{Option}
+-- The turns of a run, and the store of it that a module may refuse.
+use Rattle.std.specs.Prelude.{◌≡◌, ℕ, ◌-◌, ◌%◌, ◌≤◌, List, [], ◌∷◌, take, slice_get, Some}
 use Rattle.strand_inputs.specs.Settings.{Settings}
 use Rattle.strand_inputs.specs.declared.step.Step.{Step}
 use Rattle.strand_rules.specs.declared.turn.Turn.{Turn}
@@ -15,24 +14,10 @@ pub record FailedStore : Type 0 where
   pub step : ℕ
   pub «module» : ℕ
 
-pub record Run : Type 0 where
-  pub turns : List Turn
-  -- the state at the end
-  pub end : State
-
 -- the turns of some steps, where the bank takes what is stored
 abbrev pub turns : Settings → Program → State → List Step → List Turn
 turns g p s [] = []
 turns g p s (step ∷ steps) = turn g p s step ∷ turns g p (after g p s step) steps
-
--- the steps that are made: those before the one whose store failed
-abbrev pub made_steps : Option FailedStore → List Step → List Step
-made_steps None steps = steps
-made_steps (Some failed) steps = take (failed.step - 1) steps
-
--- The run ends in the state before the step whose store failed.
-abbrev pub run_of : Settings → Program → State → List Step → Option FailedStore → Run
-run_of g p s steps failed = record { turns = turns g p s (made_steps failed steps); end = run g p s (made_steps failed steps) }
 
 -- the state before step number k
 abbrev pub before_step : Settings → Program → State → List Step → ℕ → State

@@ -7,7 +7,6 @@ ghost use Rattle.strand_rules.specs.Visible.{event_of, memory_after, loaded, gro
 ghost use Rattle.strand_cycle.specs.Cycle.{unmarked};
 ghost use Rattle.strand_cycle.specs.Looking.{persists_unmarked};
 
-use crate::event_tests::is_persist;
 use strand_events::{Event, Trace};
 use strand_exec::{FlatMemory, PERSISTENT_BASE, Plan, merged};
 
@@ -79,7 +78,7 @@ pub(crate) fn note(
     trace.push(event);
     buffered.push_reserved(false);
     durable.push_reserved(false);
-    if is_persist(event) {
+    if event.is_persist() {
         persisted.push_reserved(false);
     }
 }

@@ -5,9 +5,7 @@ ghost use Rattle.strand_events.specs.Trace.{core_at, core_of};
 ghost use Rattle.strand_cycle.specs.Cycle.{some_wait, must_wait, items};
 ghost use Rattle.strand_cycle.specs.Looking.{next_strand, opposes};
 
-use crate::event_tests::{
-    core_of, is_access, is_core_item, is_core_persist, is_new_strand, is_persist, is_store, word_of,
-};
+use crate::items::{is_core_item, is_core_persist};
 use strand_events::{Event, Trace};
 use strand_inputs::Mode;
 
@@ -48,7 +46,7 @@ fn next_strand(events: &[Event], mode: Mode, n: u32) -> u32
     let mut count: u32 = 0;
     if let Mode::Strand = mode {
         for k in 0..events.len() {
-            if is_new_strand(events[k]) && core_of(events[k]) == n {
+            if events[k].is_new_strand() && events[k].core() == n {
                 count += 1;
             }
         }
@@ -64,11 +62,11 @@ fn opposes(trace: &Trace, mode: Mode, event: Event, strand: u32, a: usize) -> bo
     ensures { result ≡ opposes mode trace.now.events event a }
 {
     let earlier = trace.events()[a];
-    is_access(earlier)
-        && is_access(event)
-        && word_of(earlier) == word_of(event)
-        && (is_store(earlier) || is_store(event))
-        && !(core_of(earlier) == core_of(event) && trace.strand_of(mode, a) == strand)
+    earlier.is_access()
+        && event.is_access()
+        && earlier.word() == event.word()
+        && (earlier.is_store() || event.is_store())
+        && !(earlier.core() == event.core() && trace.strand_of(mode, a) == strand)
 }
 
 // Notes event a where it is a persist that isn't durable, by its core.
@@ -80,8 +78,8 @@ fn note_wait(events: &[Event], durable: &[bool], a: usize, waiting: &mut [bool])
     ensures marks { (n : ℕ) → n < length waiting.old → held waiting.old n ≡ some_wait events.now (held durable.now) n a
         → held waiting.new n ≡ some_wait events.now (held durable.now) n (a + 1) }
 {
-    if is_persist(events[a]) && !durable[a] {
-        waiting[core_of(events[a]) as usize] = true;
+    if events[a].is_persist() && !durable[a] {
+        waiting[events[a].core() as usize] = true;
     }
 }
 
@@ -100,7 +98,7 @@ fn holds_up(
     requires strand { strand ≡ next_strand mode trace.now.events (core_of event) }
     ensures { result ≡ (opposes mode trace.now.events event a && held waiting.now (core_at trace.now.events a)) }
 {
-    opposes(trace, mode, event, strand, a) && waiting[core_of(trace.events()[a]) as usize]
+    opposes(trace, mode, event, strand, a) && waiting[trace.events()[a].core() as usize]
 }
 
 // Whether an access of another strand holds the next event up. It goes over the trace once, and keeps
@@ -110,7 +108,7 @@ pub(crate) fn must_wait(trace: &Trace, mode: Mode, durable: &[bool], event: Even
     ensures { result ≡ must_wait mode (trace.now.events ++ event ∷ []) (held durable.now) (length trace.now.events) }
 {
     let events = trace.events();
-    let strand = next_strand(events, mode, core_of(event));
+    let strand = next_strand(events, mode, event.core());
     let mut waiting = [false; 8];
     let mut found = false;
     for a in 0..events.len() {

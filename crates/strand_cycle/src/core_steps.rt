@@ -9,7 +9,7 @@ ghost use Rattle.strand_cycle.specs.Machine.{stepped, made_to, Runs};
 use crate::CycleMachine;
 use crate::acting::{act, event_of, note};
 use crate::core_rules::{item_count, must_wait, some_wait};
-use crate::event_tests::{is_access, is_item, is_join};
+use crate::items::is_item;
 use strand_events::Event;
 use strand_exec::{Life, Plan, finish, plan};
 use strand_rules::{Cause, Turn};
@@ -39,10 +39,10 @@ impl CycleMachine {
         let events = self.trace.events();
         let made = item_count(events, config.mode, n);
         let queued = made.saturating_sub(self.dispatched[n as usize]);
-        if is_join(event) && (queued != 0 || some_wait(events, &self.durable, n, events.len())) {
+        if event.is_join() && (queued != 0 || some_wait(events, &self.durable, n, events.len())) {
             return Turn::Bubble(Cause::Join);
         }
-        if is_access(event) && must_wait(&self.trace, config.mode, &self.durable, event) {
+        if event.is_access() && must_wait(&self.trace, config.mode, &self.durable, event) {
             return Turn::Bubble(Cause::Conflict);
         }
         if is_item(config.mode, event) && queued == config.queue {

@@ -6,7 +6,7 @@ ghost use Rattle.strand_events.specs.Order.{held};
 ghost use Rattle.strand_cycle.specs.Cycle.{items, is_item};
 ghost use Rattle.strand_cycle.specs.Looking.{is_of_strand, is_in_use, is_busy};
 
-use crate::event_tests::{core_of, is_core_item, is_core_persist};
+use crate::items::{is_core_item, is_core_persist};
 use strand_events::{Event, Trace};
 use strand_inputs::Mode;
 
@@ -42,7 +42,7 @@ pub(crate) fn same_strand(trace: &Trace, mode: Mode, a: usize, b: usize) -> bool
     requires b { b < length trace.now.events }
     ensures { result ≡ same_strand mode trace.now.events a b }
 {
-    core_of(trace.events()[a]) == core_of(trace.events()[b])
+    trace.events()[a].core() == trace.events()[b].core()
         && trace.strand_of(mode, a) == trace.strand_of(mode, b)
 }
 

@@ -7,7 +7,7 @@ ghost use Rattle.strand_cycle.specs.Machine.{stepped, made_to};
 
 use crate::CycleMachine;
 use crate::dispatch_rules::{buffer_busy, item_at, ring_use};
-use crate::event_tests::{is_new_strand, is_persist, is_persist_at};
+use crate::items::is_persist_at;
 use strand_rules::{Cause, Turn};
 
 impl CycleMachine {
@@ -63,10 +63,10 @@ impl CycleMachine {
     {
         let config = self.config;
         let event = self.trace.events()[k];
-        if is_persist(event) && self.ring_use(n, k) == config.ring {
+        if event.is_persist() && self.ring_use(n, k) == config.ring {
             return Turn::Bubble(Cause::NoRoom);
         }
-        if is_new_strand(event) && self.buffer_busy(n, k) {
+        if event.is_new_strand() && self.buffer_busy(n, k) {
             return Turn::Bubble(Cause::NotEmpty);
         }
         Turn::Done

@@ -9,7 +9,7 @@ mod core_steps;
 mod cycle_machine;
 mod dispatch_rules;
 mod dispatch_steps;
-mod event_tests;
+mod items;
 mod laws;
 mod send_rules;
 #[cfg(test)]

@@ -8,7 +8,6 @@ ghost use Rattle.strand_rules.specs.Cycle.{place_of};
 ghost use Rattle.strand_cycle.specs.Looking.{settings_of, state_of};
 
 use crate::dispatch_rules::same_strand;
-use crate::event_tests::{core_of, is_persist, word_of};
 use strand_events::{Event, Trace};
 use strand_exec::PERSISTENT_BASE;
 use strand_inputs::Mode;
@@ -20,7 +19,7 @@ fn is_lower(trace: &Trace, mode: Mode, durable: &[bool], q: usize, p: usize) -> 
     requires marks { length durable.now ≡ length trace.now.events }
     ensures { result ≡ is_lower mode trace.now.events (held durable.now) q p }
 {
-    is_persist(trace.events()[q])
+    trace.events()[q].is_persist()
         && same_strand(trace, mode, q, p)
         && trace.epoch_of(mode, q) < trace.epoch_of(mode, p)
         && !durable[q]
@@ -51,7 +50,7 @@ fn word_waits(trace: &Trace, mode: Mode, buffered: &[bool], p: usize) -> bool
     for q in 0..p {
         let same = buffered[q]
             && same_strand(trace, mode, q, p)
-            && word_of(trace.events()[q]) == word_of(trace.events()[p]);
+            && trace.events()[q].word() == trace.events()[p].word();
         if same {
             found = true;
         }
@@ -77,7 +76,7 @@ fn is_eligible(
     ensures { result ≡ is_eligible (settings_of mode buffers) (state_of trace.now.events [] buffered.now [] durable.now) n b p }
 {
     let inside = buffered[p]
-        && core_of(trace.events()[p]) == n
+        && trace.events()[p].core() == n
         && trace.strand_of(mode, p) % buffers == b;
     inside && !epoch_waits(trace, mode, durable, p) && !word_waits(trace, mode, buffered, p)
 }
@@ -121,7 +120,7 @@ pub(crate) fn older_waits(events: &[Event], flight: &[u32], j: usize, p: usize) 
 {
     let mut found = false;
     for i in 0..j {
-        if word_of(events[flight[i] as usize]) == word_of(events[p]) {
+        if events[flight[i] as usize].word() == events[p].word() {
             found = true;
         }
     }
@@ -135,7 +134,7 @@ pub(crate) fn persist_number(events: &[Event], p: usize) -> usize
 {
     let mut count = 0;
     for k in 0..p {
-        if is_persist(events[k]) {
+        if events[k].is_persist() {
             count += 1;
         }
     }

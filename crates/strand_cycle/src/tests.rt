@@ -214,6 +214,20 @@ fn strands_drain_apart(rt: HostRuntime) -> Result<(), Fail> {
             "c 0 * 7\nd 0 * 3\ns 0 0 0\ns 0 0 0\n",
             "12 Bubble(NoEntry), 000, 7 retired, [1, 1, 1]",
         )],
+    )?;
+    rows(
+        &rt,
+        rt.alloc(),
+        Config {
+            mode: Mode::Epoch,
+            ..MACHINE
+        },
+        &image,
+        0,
+        &[(
+            "c 0 * 7\nd 0 * 4\ns 0 0 0\ns 0 0 0\nw 0\ns 0 0 1\nw 0\n",
+            "13 Bubble(NoEntry), 101, 7 retired, [1, 1, 1]",
+        )],
     )
 }
 

@@ -1,4 +1,5 @@
 pub mod Trace
+pub mod Places
 pub mod Order
 pub mod Fits
 pub mod Marks

@@ -5,7 +5,7 @@ ghost use Rattle.strand_events.specs.Numbers.{numbers_of};
 ghost use Rattle.strand_events.specs.Order.{is_joined};
 ghost use Rattle.strand_events.specs.Trace.{persists_of};
 
-use crate::event::{Event, core_of};
+use crate::event::Event;
 use std::alloc::Global;
 use strand_base::{Numbers, OutOfMemory};
 
@@ -39,7 +39,7 @@ pub(crate) fn joined_numbers(
     let ends = join_ends(events);
     let mut numbers = Numbers::new(alloc);
     for (number, event) in persists.iter().enumerate() {
-        let core = core_of(events[*event as usize]) as usize;
+        let core = events[*event as usize].core() as usize;
         if *event + 1 < ends[core] {
             numbers.push(number as u32)?;
         }

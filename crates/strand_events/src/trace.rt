@@ -4,7 +4,7 @@ ghost use Rattle.strand_events.specs.Fits.{IsMarked, AllFit};
 ghost use Rattle.strand_events.specs.Numbers.{numbers_of};
 ghost use Rattle.strand_events.specs.Order.{is_joined};
 
-use crate::event::{Event, core_of};
+use crate::event::Event;
 use crate::joined::joined_numbers;
 use crate::marks::{Marks, NOTHING_MADE, epoch_in, marks_after, strand_in};
 use std::alloc::Global;
@@ -121,7 +121,7 @@ impl Trace {
         ensures events { self.new.events ≡ self.old.events ++ e ∷ [] }
         ensures room { self.new.room ≡ self.old.room }
     {
-        let core = core_of(e) as usize;
+        let core = e.core() as usize;
         let marks = self.latest[core];
         let number = self.events.len() as u32;
         note_persist(&mut self.persists, e, number);
@@ -137,7 +137,7 @@ fn note_persist(persists: &mut Vec<u32>, e: Event, number: u32)
     ensures items { persists.new.items ≡ (if is_persist e then persists.old.items ++ number ∷ [] else persists.old.items) }
     ensures capacity { vec_capacity persists.new ≡ vec_capacity persists.old }
 {
-    if matches!(e, Event::Store { persist: true, .. }) {
+    if e.is_persist() {
         persists.push_reserved(number);
     }
 }

@@ -6,17 +6,18 @@ use Rattle.strand_events.specs.declared.event.Event.{Event}
 use Rattle.strand_events.specs.Trace.{is_persist, word_at, value_at, event_is}
 use Rattle.strand_events.specs.Order.{Set, image}
 use Rattle.strand_judge.specs.Judged.{Offers}
-use Rattle.strand_judge.specs.Words.{address, place_of, crash_of, LieIn}
+use Rattle.strand_events.specs.Places.{address_of, place_of}
+use Rattle.strand_judge.specs.Words.{crash_of, LieIn}
 use Rattle.strand_judge.specs.Forcing.{at_word, IsImage, is_lacking, LacksNone, LacksFirst}
 use Rattle.strand_judge.specs.Lacking.{Lacks, LacksNothing}
 use Rattle.strand_events.proofs.Within.{event_within}
 
 module _ (t : List Event) (all : Set) (first found values : List ℕ) (same : length first ≡ length found) (i : IsImage t all first values) where
   -- a word of the crash image, by its place
-  pub has_parts : (word : ℕ) → (crash_of first found).has word ≡ true → (word ≡ address (place_of word)) × (place_of word < length found)
+  pub has_parts : (word : ℕ) → (crash_of first found).has word ≡ true → (word ≡ address_of (place_of word)) × (place_of word < length found)
   has_parts word h =
-      let parts = and_parts (word == address (place_of word)) (nat_lt (place_of word) (length found)) h in
-      (eqb-true word (address (place_of word)) parts.0, ltb-true (place_of word) (length found) parts.1)
+      let parts = and_parts (word == address_of (place_of word)) (nat_lt (place_of word) (length found)) h in
+      (eqb-true word (address_of (place_of word)) parts.0, ltb-true (place_of word) (length found) parts.1)
 
   -- the list has the image's value at each word
   pub value_is : (word : ℕ) → (crash_of first found).has word ≡ true → at_word values word ≡ image t all (at_word first) word
@@ -43,7 +44,7 @@ module _ (t : List Event) (all : Set) (first found values : List ℕ) (same : le
       let two = and_parts (event_is is_persist t p && not (all p)) (not (at_word values word == at_word found word)) one.0 in
       let three = and_parts (event_is is_persist t p) (not (all p)) two.0 in
       let lies = lie p three.0 in
-      let h : (crash_of first found).has word ≡ true = and_from (word == address (place_of word)) (nat_lt (place_of word) (length found)) (eq-eqb word (address (place_of word)) lies.0) (lt-ltb (place_of word) (length found) lies.1) in
+      let h : (crash_of first found).has word ≡ true = and_from (word == address_of (place_of word)) (nat_lt (place_of word) (length found)) (eq-eqb word (address_of (place_of word)) lies.0) (lt-ltb (place_of word) (length found) lies.1) in
       let differ : at_word values word ≡ at_word found word → ⊥ = λ e. both_ways (at_word values word == at_word found word) (not-true (at_word values word == at_word found word) two.1) (eq-eqb (at_word values word) (at_word found word) e) in
       record {
         has = h;

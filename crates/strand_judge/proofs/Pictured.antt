@@ -7,10 +7,11 @@ use Rattle.strand_events.specs.declared.event.Event.{Event}
 use Rattle.strand_events.specs.Trace.{is_persist, word_at, value_at, event_is}
 use Rattle.strand_events.specs.Order.{Set, sets_word}
 use Rattle.strand_events.proofs.Images.{image_yes, image_no}
-use Rattle.strand_judge.specs.Words.{address, place_of, LieIn}
+use Rattle.strand_events.specs.Places.{address_of, place_of}
+use Rattle.strand_judge.specs.Words.{LieIn}
 use Rattle.strand_judge.specs.Forcing.{at_word, IsImageBelow}
 
-pub place_again : (k : ℕ) → place_of (address k) ≡ k
+pub place_again : (k : ℕ) → place_of (address_of k) ≡ k
 place_again k = omega arith
 
 module _ (t : List Event) (all : Set) (initial : List ℕ) where
@@ -19,8 +20,8 @@ module _ (t : List Event) (all : Set) (initial : List ℕ) where
   image_kept n values off i = record {
     long = i.long;
     value = λ k lt.
-        let none : sets_word t all (address k) n ≡ false = false_from_ne_true (sets_word t all (address k) n) (λ h. both_ways (event_is is_persist t n && all n) off (and_parts (event_is is_persist t n && all n) (word_at t n == address k) h).0) in
-        i.value k lt ∙ sym (rw add-one (image_no t all (at_word initial) n (address k) none));
+        let none : sets_word t all (address_of k) n ≡ false = false_from_ne_true (sets_word t all (address_of k) n) (λ h. both_ways (event_is is_persist t n && all n) off (and_parts (event_is is_persist t n && all n) (word_at t n == address_of k) h).0) in
+        i.value k lt ∙ sym (rw add-one (image_no t all (at_word initial) n (address_of k) none));
   }
 
   -- it is one
@@ -30,15 +31,15 @@ module _ (t : List Event) (all : Set) (initial : List ℕ) where
     long = length-set values (place_of (word_at t n)) (value_at t n) ∙ i.long;
     value = λ k lt. elim (cases_eq k (place_of (word_at t n))) [
       | inl e ↦
-          let word : word_at t n ≡ address k = (lie n is).0 ∙ ap address (sym e) in
-          let here : sets_word t all (address k) n ≡ true = and_from (event_is is_persist t n && all n) (word_at t n == address k) (and_from (event_is is_persist t n) (all n) is on) (eq-eqb (word_at t n) (address k) word) in
+          let word : word_at t n ≡ address_of k = (lie n is).0 ∙ ap address_of (sym e) in
+          let here : sets_word t all (address_of k) n ≡ true = and_from (event_is is_persist t n && all n) (word_at t n == address_of k) (and_from (event_is is_persist t n) (all n) is on) (eq-eqb (word_at t n) (address_of k) word) in
           let within : place_of (word_at t n) < length values = omega (arith, (lie n is).1, i.long) in
-          ap (slice_index (slice_set values (place_of (word_at t n)) (value_at t n))) e ∙ get_or-set_same values (place_of (word_at t n)) (value_at t n) 0 within ∙ sym (rw add-one (image_yes t all (at_word initial) n (address k) here))
+          ap (slice_index (slice_set values (place_of (word_at t n)) (value_at t n))) e ∙ get_or-set_same values (place_of (word_at t n)) (value_at t n) 0 within ∙ sym (rw add-one (image_yes t all (at_word initial) n (address_of k) here))
       | inr ne ↦
-          let none : sets_word t all (address k) n ≡ false = false_from_ne_true (sets_word t all (address k) n) (λ h.
-          let word : word_at t n ≡ address k = eqb-true (word_at t n) (address k) (and_parts (event_is is_persist t n && all n) (word_at t n == address k) h).1 in
+          let none : sets_word t all (address_of k) n ≡ false = false_from_ne_true (sets_word t all (address_of k) n) (λ h.
+          let word : word_at t n ≡ address_of k = eqb-true (word_at t n) (address_of k) (and_parts (event_is is_persist t n && all n) (word_at t n == address_of k) h).1 in
           ne (sym (ap place_of word ∙ place_again k))) in
-          get_or-set_other values (place_of (word_at t n)) k (value_at t n) 0 ne ∙ i.value k lt ∙ sym (rw add-one (image_no t all (at_word initial) n (address k) none))
+          get_or-set_other values (place_of (word_at t n)) k (value_at t n) 0 ne ∙ i.value k lt ∙ sym (rw add-one (image_no t all (at_word initial) n (address_of k) none))
     ];
   }
 

@@ -5,7 +5,8 @@ use Rattle.std.proofs.lemmas.Bool.{and_from, eq-eqb, lt-ltb}
 use Rattle.strand_events.specs.declared.event.Event.{Event}
 use Rattle.strand_events.specs.Order.{Set}
 use Rattle.strand_judge.specs.Judged.{Agrees}
-use Rattle.strand_judge.specs.Words.{address, place_of, crash_of}
+use Rattle.strand_events.specs.Places.{address_of, place_of}
+use Rattle.strand_judge.specs.Words.{crash_of}
 use Rattle.strand_judge.specs.Forcing.{IsImage, DifferFirst, AreSame}
 use Rattle.strand_judge.specs.Verdicts.{IsFirstDifference}
 use Rattle.strand_judge.proofs.Pictured.{place_again}
@@ -18,14 +19,14 @@ module _ (t : List Event) (all : Set) (first found values : List ℕ) (same : le
   pub all_agree : AreSame values found → (word : ℕ) → (crash_of first found).has word ≡ true → Agrees t (crash_of first found) all word
   all_agree alike word h = agrees_at word h (alike (place_of word) (has_parts t all first found values same i word h).1)
 
-  pub differs_first : (place : ℕ) → DifferFirst values found place → IsFirstDifference t (crash_of first found) all (address place)
+  pub differs_first : (place : ℕ) → DifferFirst values found place → IsFirstDifference t (crash_of first found) all (address_of place)
   differs_first place d =
       let again = place_again place in
-      let within : place_of (address place) < length found = omega (arith, again, d.within) in
-      let h : (crash_of first found).has (address place) ≡ true = and_from (address place == address (place_of (address place))) (nat_lt (place_of (address place)) (length found)) (eq-eqb (address place) (address (place_of (address place))) (ap address (sym again))) (lt-ltb (place_of (address place)) (length found) within) in
+      let within : place_of (address_of place) < length found = omega (arith, again, d.within) in
+      let h : (crash_of first found).has (address_of place) ≡ true = and_from (address_of place == address_of (place_of (address_of place))) (nat_lt (place_of (address_of place)) (length found)) (eq-eqb (address_of place) (address_of (place_of (address_of place))) (ap address_of (sym again))) (lt-ltb (place_of (address_of place)) (length found) within) in
       record {
         has = h;
-        differs = λ agrees. d.differ (ap (slice_index values) (sym again) ∙ value_is t all first found values same i (address place) h ∙ agrees ∙ ap (slice_index found) again);
+        differs = λ agrees. d.differ (ap (slice_index values) (sym again) ∙ value_is t all first found values same i (address_of place) h ∙ agrees ∙ ap (slice_index found) again);
         first = λ other below has.
             let parts = has_parts t all first found values same i other has in
             let before : place_of other < place = omega (arith, parts.0, below) in

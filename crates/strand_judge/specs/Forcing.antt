@@ -3,7 +3,7 @@ use Rattle.std.specs.Prelude.{◌≡◌, ℕ, ◌<◌, Bool, true, false, ◌&&�
 use Rattle.strand_events.specs.declared.event.Event.{Event}
 use Rattle.strand_events.specs.Trace.{is_persist, word_at, value_at, event_is}
 use Rattle.strand_events.specs.Order.{Set, image_below}
-use Rattle.strand_judge.specs.Words.{address, place_of}
+use Rattle.strand_events.specs.Places.{address_of, place_of}
 
 -- the value of a word in a list by places
 abbrev pub at_word : List ℕ → ℕ → ℕ
@@ -12,7 +12,7 @@ at_word values word = slice_index values (place_of word)
 -- the list has the values of the set's image among the events below n
 pub record IsImageBelow (t : List Event) (set : Set) (initial : List ℕ) (n : ℕ) (values : List ℕ) : Type 0 where
   pub long : length values ≡ length initial
-  pub value : (place : ℕ) → place < length initial → slice_index values place ≡ image_below t set (at_word initial) n (address place)
+  pub value : (place : ℕ) → place < length initial → slice_index values place ≡ image_below t set (at_word initial) n (address_of place)
 
 abbrev pub IsImage : List Event → Set → List ℕ → List ℕ → Type 0
 IsImage t set initial values = IsImageBelow t set initial (length t) values

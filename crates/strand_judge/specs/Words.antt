@@ -1,24 +1,18 @@
 -- The words of a crash image, by their places in its list.
-use Rattle.std.specs.Prelude.{◌≡◌, ℕ, ◌+◌, ◌-◌, ◌*◌, ◌/◌, ◌<◌, true, ◌&&◌, ◌==◌, nat_lt, List, length, slice_index}
+use Rattle.std.specs.Prelude.{◌≡◌, ℕ, ◌<◌, true, ◌&&◌, ◌==◌, nat_lt, List, length, slice_index}
 use Rattle.strand_events.specs.declared.event.Event.{Event}
 use Rattle.strand_events.specs.Trace.{is_persist, word_at, event_is}
+use Rattle.strand_events.specs.Places.{place_of, address_of}
 use Rattle.strand_judge.specs.Judged.{Crash}
-
--- the persistent word at a place, by its address, and the place of an address
-abbrev pub address : ℕ → ℕ
-address place = 1073741824 + 8 * place
-
-abbrev pub place_of : ℕ → ℕ
-place_of word = (word - 1073741824) / 8
 
 -- the crash image of two lists: the words' initial values and their values after the crash
 abbrev pub crash_of : List ℕ → List ℕ → Crash
 crash_of initial found = record {
-  has = λ word. (word == address (place_of word)) && nat_lt (place_of word) (length found);
+  has = λ word. (word == address_of (place_of word)) && nat_lt (place_of word) (length found);
   initial = λ word. slice_index initial (place_of word);
   found = λ word. slice_index found (place_of word);
 }
 
 -- each persist is to one of so many words
 abbrev pub LieIn : List Event → ℕ → Type 0
-LieIn t words = (p : ℕ) → event_is is_persist t p ≡ true → (word_at t p ≡ address (place_of (word_at t p))) × (place_of (word_at t p) < words)
+LieIn t words = (p : ℕ) → event_is is_persist t p ≡ true → (word_at t p ≡ address_of (place_of (word_at t p))) × (place_of (word_at t p) < words)

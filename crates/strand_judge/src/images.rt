@@ -2,13 +2,20 @@
 ghost use Rattle.std.specs.Prelude.{◌≡◌, ◌<◌, ◌&&◌, length, slice_set, if◌then◌else◌, IfOk, MatchOption};
 ghost use Rattle.strand_events.specs.Trace.{event_is, is_persist, word_at, value_at};
 ghost use Rattle.strand_events.specs.Order.{held};
-ghost use Rattle.strand_judge.specs.Words.{LieIn, place_of};
+ghost use Rattle.strand_events.specs.Places.{place_of};
+ghost use Rattle.strand_judge.specs.Words.{LieIn};
 ghost use Rattle.strand_judge.specs.Forcing.{IsImage, is_lacking, LacksNone, LacksFirst, DifferFirst, AreSame};
 
-use crate::event_tests::{is_persist, place_of, value_of, word_of};
 use std::alloc::Global;
 use strand_base::OutOfMemory;
 use strand_events::Event;
+
+// The place of a persistent word, by its address.
+pub(crate) fn place_of(word: u64) -> usize
+    ensures { result ≡ place_of word }
+{
+    (word.saturating_sub(0x4000_0000) / 8) as usize
+}
 
 // Puts the value of event k into its word, where it is a marked persist.
 fn put_value(image: &mut Vec<u64>, events: &[Event], marks: &[bool], k: usize)
@@ -19,8 +26,8 @@ fn put_value(image: &mut Vec<u64>, events: &[Event], marks: &[bool], k: usize)
         then slice_set image.old.items (place_of (word_at events.now k)) (value_at events.now k) else image.old.items) }
 {
     let event = events[k];
-    if is_persist(event) && marks[k] {
-        image[place_of(word_of(event))] = value_of(event);
+    if event.is_persist() && marks[k] {
+        image[place_of(event.word())] = event.value();
     }
 }
 
@@ -51,11 +58,11 @@ fn is_lacking(events: &[Event], marks: &[bool], image: &[u64], found: &[u64], k:
     ensures { result ≡ is_lacking events.now (held marks.now) image.now found.now k }
 {
     let event = events[k];
-    if !is_persist(event) || marks[k] {
+    if !event.is_persist() || marks[k] {
         return false;
     }
-    let place = place_of(word_of(event));
-    image[place] != found[place] && value_of(event) == found[place]
+    let place = place_of(event.word());
+    image[place] != found[place] && event.value() == found[place]
 }
 
 /// The first such persist.

@@ -2,7 +2,6 @@
 #![tactic(auto)]
 
 mod closing;
-mod event_tests;
 mod images;
 mod judging;
 mod laws;

@@ -6,7 +6,6 @@ ghost use Rattle.strand_events.specs.Order.{held, is_joined, sets_word};
 ghost use Rattle.strand_events.specs.Numbers.{numbers_of};
 ghost use Rattle.strand_judge.specs.Marks.{Marks};
 
-use crate::event_tests::{is_persist, word_of};
 use std::alloc::Global;
 use strand_base::{Numbers, OutOfMemory};
 use strand_events::Event;
@@ -18,7 +17,7 @@ pub(crate) fn persists_of(alloc: Global, events: &[Event]) -> Result<Vec<u32>, O
 {
     let mut persists = Vec::new(alloc);
     for k in 0..events.len() {
-        if is_persist(events[k]) {
+        if events[k].is_persist() {
             persists.push(k as u32)?;
         }
     }
@@ -69,7 +68,7 @@ fn sets_word(events: &[Event], marks: &[bool], word: u64, k: usize) -> bool
     requires marks { length marks.now ≡ length events.now }
     ensures { result ≡ sets_word events.now (held marks.now) word k }
 {
-    is_persist(events[k]) && marks[k] && word_of(events[k]) == word
+    events[k].is_persist() && marks[k] && events[k].word() == word
 }
 
 /// How many marked persists there are to a word.

@@ -1,12 +1,11 @@
 ghost use Rattle.std.specs.Prelude.{◌≡◌, ℕ, ◌<◌, ◌^◌, true, length, IfOk};
 ghost use Rattle.strand_events.specs.Fits.{EventFits};
 ghost use Rattle.strand_events.specs.Order.{is_joined};
-ghost use Rattle.strand_events.specs.Trace.{core_of};
 ghost use Rattle.strand_events.specs.Numbers.{numbers_of};
 ghost use Rattle.strand_judge.specs.Words.{LieIn};
 
 use super::*;
-use crate::event_tests::{is_persist, place_of, word_of};
+use crate::images::place_of;
 use crate::marking::persists_of;
 use std::alloc::Global;
 use std::test::*;
@@ -17,19 +16,6 @@ use strand_order::build;
 
 const A: u64 = 0x4000_0000;
 
-fn core_of(event: Event) -> u32
-    ensures { result ≡ core_of event }
-{
-    match event {
-        Event::Load { core, .. } => core,
-        Event::Store { core, .. } => core,
-        Event::Barrier { core } => core,
-        Event::NewStrand { core } => core,
-        Event::Join { core } => core,
-        Event::Out { core, .. } => core,
-    }
-}
-
 // Whether persist k was made before its core's last join.
 fn is_joined(events: &[Event], k: usize) -> bool
     requires { k < length events.now }
@@ -39,12 +25,12 @@ fn is_joined(events: &[Event], k: usize) -> bool
     for j in 0..events.len() {
         if j > k
             && (matches!(events[j], Event::Join { .. })
-                && core_of(events[j]) == core_of(events[k]))
+                && events[j].core() == events[k].core())
         {
             found = true;
         }
     }
-    is_persist(events[k]) && found
+    events[k].is_persist() && found
 }
 
 // The numbers of the joined persists.
@@ -68,9 +54,9 @@ fn lie_in(events: &[Event], words: usize) -> bool
 {
     for k in 0..events.len() {
         let event = events[k];
-        if is_persist(event) {
-            let place = place_of(word_of(event));
-            if place >= words || word_of(event) != A + 8 * place as u64 {
+        if event.is_persist() {
+            let place = place_of(event.word());
+            if place >= words || event.word() != A + 8 * place as u64 {
                 return false;
             }
         }

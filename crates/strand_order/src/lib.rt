@@ -2,7 +2,6 @@
 #![tactic(auto)]
 
 mod edge;
-mod event_tests;
 mod graph;
 mod laws;
 mod looking;

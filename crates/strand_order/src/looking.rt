@@ -2,13 +2,10 @@
 ghost use Rattle.std.specs.Prelude.{◌≡◌, suc, ◌<◌, ◌≤◌, ◌&&◌, ◌||◌, ◌==◌, ◌^◌, ◌+◌, length, if◌then◌else◌};
 ghost use Rattle.strand_events.specs.Trace.{is_join, same_strand, word_at, core_at, core_event_is};
 ghost use Rattle.strand_events.specs.Order.{conflicts};
-ghost use Rattle.strand_order.specs.Graph.{access_or_join, stores_word, gates, is_edge};
+ghost use Rattle.strand_order.specs.Graph.{access_or_join, drained_by, stores_word, gates, is_edge};
 ghost use Rattle.strand_order.specs.Looking.{since_at, is_last, program_seen, gate_seen, barrier_seen, join_seen, core_seen, edge_seen};
 
-use crate::event_tests::{
-    access_or_join, core_of, drained_by, is_access, is_barrier, is_join, is_store, word_of,
-};
-use strand_events::Trace;
+use strand_events::{Event, Trace};
 use strand_inputs::Mode;
 
 /// One more than the last event before event j that is a store to its word, an access or a join of its
@@ -21,12 +18,24 @@ pub(crate) struct Since {
     join: usize,
 }
 
+fn access_or_join(event: Event) -> bool
+    ensures { result ≡ access_or_join event }
+{
+    event.is_access() || event.is_join()
+}
+
+fn drained_by(event: Event) -> bool
+    ensures { result ≡ drained_by event }
+{
+    event.is_access() || event.is_barrier() || event.is_join()
+}
+
 fn same_strand(trace: &Trace, mode: Mode, i: usize, j: usize) -> bool
     requires i { i < length trace.now.events }
     requires j { j < length trace.now.events }
     ensures { result ≡ same_strand mode trace.now.events i j }
 {
-    core_of(trace.events()[i]) == core_of(trace.events()[j])
+    trace.events()[i].core() == trace.events()[j].core()
         && trace.strand_of(mode, i) == trace.strand_of(mode, j)
 }
 
@@ -37,7 +46,7 @@ fn stores_word(trace: &Trace, j: usize, k: usize) -> bool
     ensures { result ≡ stores_word trace.now.events (word_at trace.now.events j) k }
 {
     let event = trace.events()[k];
-    is_store(event) && word_of(event) == word_of(trace.events()[j])
+    event.is_store() && event.word() == trace.events()[j].word()
 }
 
 // Whether event k is an access or a join of event j's core.
@@ -47,7 +56,7 @@ fn steps(trace: &Trace, j: usize, k: usize) -> bool
     ensures { result ≡ core_event_is access_or_join (core_at trace.now.events j) trace.now.events k }
 {
     let event = trace.events()[k];
-    access_or_join(event) && core_of(event) == core_of(trace.events()[j])
+    access_or_join(event) && event.core() == trace.events()[j].core()
 }
 
 // Whether event k is a join of event j's core.
@@ -57,7 +66,7 @@ fn joins(trace: &Trace, j: usize, k: usize) -> bool
     ensures { result ≡ core_event_is is_join (core_at trace.now.events j) trace.now.events k }
 {
     let event = trace.events()[k];
-    is_join(event) && core_of(event) == core_of(trace.events()[j])
+    event.is_join() && event.core() == trace.events()[j].core()
 }
 
 // Whether event k is a barrier of event j's strand or a join of its core.
@@ -66,7 +75,7 @@ fn gates(trace: &Trace, mode: Mode, j: usize, k: usize) -> bool
     requires k { k < length trace.now.events }
     ensures { result ≡ gates mode trace.now.events j k }
 {
-    (is_barrier(trace.events()[k]) && same_strand(trace, mode, k, j)) || joins(trace, j, k)
+    (trace.events()[k].is_barrier() && same_strand(trace, mode, k, j)) || joins(trace, j, k)
 }
 
 // The place after k where event k passes, else the place that was found before.
@@ -113,7 +122,7 @@ fn conflicts(trace: &Trace, i: usize, j: usize) -> bool
     ensures { result ≡ conflicts trace.now.events i j }
 {
     let (a, b) = (trace.events()[i], trace.events()[j]);
-    is_access(a) && is_access(b) && word_of(a) == word_of(b) && (is_store(a) || is_store(b))
+    a.is_access() && b.is_access() && a.word() == b.word() && (a.is_store() || b.is_store())
 }
 
 fn program_seen(trace: &Trace, since: Since, i: usize, j: usize) -> bool
@@ -132,7 +141,7 @@ fn gate_seen(trace: &Trace, mode: Mode, since: Since, i: usize, j: usize) -> boo
     ensures { result ≡ gate_seen since mode trace.now.events i j }
 {
     let event = trace.events()[j];
-    (is_access(event) || is_barrier(event)) && (gates(trace, mode, j, i) && is_last(since.gate, i))
+    (event.is_access() || event.is_barrier()) && (gates(trace, mode, j, i) && is_last(since.gate, i))
 }
 
 fn barrier_seen(trace: &Trace, mode: Mode, since: Since, i: usize, j: usize) -> bool
@@ -141,8 +150,8 @@ fn barrier_seen(trace: &Trace, mode: Mode, since: Since, i: usize, j: usize) -> 
     requires j { j < length trace.now.events }
     ensures { result ≡ barrier_seen since mode trace.now.events i j }
 {
-    is_barrier(trace.events()[j])
-        && (is_access(trace.events()[i])
+    trace.events()[j].is_barrier()
+        && (trace.events()[i].is_access()
             && same_strand(trace, mode, i, j)
             && is_last(since.gate, i))
 }
@@ -154,7 +163,7 @@ fn join_seen(trace: &Trace, since: Since, i: usize, j: usize) -> bool
     ensures { result ≡ join_seen since trace.now.events i j }
 {
     let (a, b) = (trace.events()[i], trace.events()[j]);
-    is_join(b) && (drained_by(a) && core_of(a) == core_of(b)) && is_last(since.join, i)
+    b.is_join() && (drained_by(a) && a.core() == b.core()) && is_last(since.join, i)
 }
 
 fn core_seen(trace: &Trace, mode: Mode, since: Since, i: usize, j: usize) -> bool

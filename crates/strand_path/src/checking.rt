@@ -8,21 +8,12 @@ use crate::path::Path;
 use strand_events::Event;
 use strand_order::{Edge, Graph};
 
-fn is_persist(event: Event) -> bool
-    ensures { result ≡ is_persist event }
-{
-    match event {
-        Event::Store { persist, .. } => persist,
-        _ => false,
-    }
-}
-
 // Whether event k is a persist.
 pub(crate) fn is_persist_at(events: &[Event], k: usize) -> bool
     requires { k < length events.now }
     ensures { result ≡ event_is is_persist events.now k }
 {
-    is_persist(events[k])
+    events[k].is_persist()
 }
 
 // Whether an edge is from event i to event j.
@@ -80,7 +71,7 @@ pub(crate) fn number_of(events: &[Event], event: u32) -> u32
 {
     let mut count: u32 = 0;
     for k in 0..event as usize {
-        if is_persist(events[k]) {
+        if events[k].is_persist() {
             count += 1;
         }
     }
@@ -119,7 +110,7 @@ fn are_positive(events: &[Event], levels: &[u32]) -> bool
     ensures no { ((p : ℕ) → event_is is_persist events.now p ≡ true → 1 ≤ slice_index levels.now p) → result ≡ true }
 {
     for p in 0..events.len() {
-        if is_persist(events[p]) && levels[p] == 0 {
+        if events[p].is_persist() && levels[p] == 0 {
             return false;
         }
     }
@@ -134,7 +125,7 @@ fn goes_up(events: &[Event], levels: &[u32], i: u32, j: u32) -> bool
     ensures { result ≡ goes_up events.now levels.now i j }
 {
     let (from, to) = (levels[i as usize], levels[j as usize]);
-    if is_persist(events[j as usize]) {
+    if events[j as usize].is_persist() {
         from < to
     } else {
         from <= to
@@ -163,7 +154,7 @@ pub(crate) fn greatest(events: &[Event], levels: &[u32]) -> u32
 {
     let mut greatest = 0;
     for k in 0..events.len() {
-        if is_persist(events[k]) {
+        if events[k].is_persist() {
             greatest = levels[k].max(greatest);
         }
     }

@@ -1,18 +1,18 @@
 -- The cycle rules of a machine without queues and buffers: its persists become durable one by one, in trace order.
-use Rattle.std.specs.Prelude.{ℕ, suc, ◌+◌, ◌-◌, ◌*◌, ◌/◌, ◌&&◌, Bool, nat_lt, List, [], ◌∷◌, ◌++◌, ◌==◌, slice_get, slice_index, map, length, Some, None, if◌then◌else◌}
+use Rattle.std.specs.Prelude.{ℕ, suc, ◌+◌, ◌&&◌, Bool, nat_lt, List, [], ◌∷◌, ◌++◌, ◌==◌, slice_get, slice_index, map, length, Some, None, if◌then◌else◌}
 use Rattle.std.specs.List.{range_with_len}
 use Rattle.std.specs.declared.option.Option.{Option}
 use Rattle.strand_base.specs.Counting.{count_below}
 use Rattle.strand_inputs.specs.declared.step.Step.{Step}
 use Rattle.strand_inputs.specs.declared.step.Step.TheVariants.{Core, Dispatch, Send, Write}
 use Rattle.strand_exec.specs.Core as cores
-use Rattle.strand_exec.specs.Core.{persistent_base}
 use Rattle.strand_exec.specs.Memory.{Memory}
 use Rattle.strand_exec.specs.declared.planned.Plan.{Plan}
 use Rattle.strand_exec.specs.declared.planned.Plan.TheVariants as plans
 use Rattle.strand_events.specs.declared.event.Event.{Event}
 use Rattle.strand_events.specs.Trace.{is_persist, event_is, word_at, value_at, persists_of}
 use Rattle.strand_events.specs.Order.{Set, image}
+pub use Rattle.strand_events.specs.Places.{place_of, address_of}
 use Rattle.strand_rules.specs.declared.turn.Cause.TheVariants as causes
 use Rattle.strand_rules.specs.declared.turn.Turn.{Turn}
 use Rattle.strand_rules.specs.declared.turn.Turn.TheVariants.{Done, Bubble, Fault}
@@ -87,13 +87,6 @@ after p s step = after_turn (turn p s step) s (done_after p s step)
 abbrev pub run : Program → State → List Step → State
 run p s [] = s
 run p s (step ∷ steps) = run p (after p s step) steps
-
--- where a persistent word stands among the persistent words, and its address
-abbrev pub place_of : ℕ → ℕ
-place_of word = (word - persistent_base) / 8
-
-abbrev pub address_of : ℕ → ℕ
-address_of place = persistent_base + 8 * place
 
 -- the values that the image gives the persistent words, from their initial values
 unfoldable pub persistent_image : List ℕ → List Event → Set → List ℕ

@@ -25,8 +25,8 @@ loop-number-preserved c =
     elim c.if-event-ends.branch [
       | then-event-ends+in_ok-push w ↦
           rw w.numbers-is (joined_more c.args.events.now p _ (omega (arith, ap length c.requires.persists)) (ap (λ (xs : List ℕ). slice_index_or xs p 0) c.requires.persists)
-          c.join_ends-ends.result _ c.requires.fits c.join_ends-ends.ensures c.loop-number.numbers _ (rw c.core_of-core.ensures at w.if-event-ends.true) c.loop-number.invariant w.in_ok-push.ensures.ok)
+          c.join_ends-ends.result _ c.requires.fits c.join_ends-ends.ensures c.loop-number.numbers _ (rw c.core-core.ensures at w.if-event-ends.true) c.loop-number.invariant w.in_ok-push.ensures.ok)
       | else-event-ends w ↦
           rw w.numbers-is (joined_same c.args.events.now p _ (omega (arith, ap length c.requires.persists)) (ap (λ (xs : List ℕ). slice_index_or xs p 0) c.requires.persists)
-          c.join_ends-ends.result _ c.requires.fits c.join_ends-ends.ensures c.loop-number.numbers (rw c.core_of-core.ensures at w.if-event-ends.false) c.loop-number.invariant)
+          c.join_ends-ends.result _ c.requires.fits c.join_ends-ends.ensures c.loop-number.numbers (rw c.core-core.ensures at w.if-event-ends.false) c.loop-number.invariant)
     ]

@@ -5,7 +5,8 @@ use Rattle.strand_events.specs.declared.event.Event.{Event}
 use Rattle.strand_events.specs.Trace.{persists_of}
 use Rattle.strand_events.specs.Order.{Set, held, sets_word}
 use Rattle.strand_events.proofs.Kept.{persists_most}
-use Rattle.strand_judge.specs.Words.{crash_of, address}
+use Rattle.strand_events.specs.Places.{address_of}
+use Rattle.strand_judge.specs.Words.{crash_of}
 use Rattle.strand_judge.specs.Forcing.{IsImage}
 use Rattle.strand_judge.proofs.Judged.{judged_settled, least_judged}
 use Rattle.strand_judge.proofs.Numbered.{persist_within}
@@ -57,5 +58,5 @@ returns-clause-word c = record {
   set = held c.args.marks.now;
   least = c.requires.least;
   at = differs_first c.args.graph.now.events (held c.args.marks.now) c.args.first.now c.args.found.now c.deref.result.now c.requires.same (pictured c.events.result.now c.args.graph.now.events c.events.ensures.events (held c.args.marks.now) c.args.first.now c.in_ok-image.image.items c.deref.result.now c.deref.ensures.value c.in_ok-image.ensures) c.in-Some.place c.in-Some.ensures;
-  rank_is = c.rank-rank.ensures ∙ ap (λ xs. count_below (length xs) (sets_word xs (held c.args.marks.now) (address c.in-Some.place))) c.events-in-Some.ensures.events;
+  rank_is = c.rank-rank.ensures ∙ ap (λ xs. count_below (length xs) (sets_word xs (held c.args.marks.now) (address_of c.in-Some.place))) c.events-in-Some.ensures.events;
 }

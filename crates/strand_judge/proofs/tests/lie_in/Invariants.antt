@@ -1,7 +1,7 @@
 use Rattle.std.proofs.Common.{◌≡◌, ◌<◌, ℕ, true}
 use Rattle.strand_events.specs.Trace.{is_persist, word_at, event_is}
-use Rattle.strand_judge.specs.Words.{address, place_of}
+use Rattle.strand_events.specs.Places.{address_of, place_of}
 use Rattle.strand_judge.proofs.tests.lie_in.Given as goal
 
 abbrev pub invariant-loop-k : goal.invariant-loop-k
-invariant-loop-k l = (p : ℕ) → p < l.k → event_is is_persist l.events p ≡ true → (word_at l.events p ≡ address (place_of (word_at l.events p))) × (place_of (word_at l.events p) < l.words)
+invariant-loop-k l = (p : ℕ) → p < l.k → event_is is_persist l.events p ≡ true → (word_at l.events p ≡ address_of (place_of (word_at l.events p))) × (place_of (word_at l.events p) < l.words)
