@@ -1,5 +1,5 @@
 -- The text of each instruction: its word, and behind a space its operands with a comma and a space between.
-use Rattle.std.specs.Prelude.{ℤ, ◌≡◌, ℕ, ◌==◌, pos, Bool, true, false, List, [], ◌∷◌, ◌++◌, drop, min, not, Option, Some, None, Result, Ok, Err, if◌then◌else◌}
+use Rattle.std.specs.Prelude.{ℤ, ◌≡◌, ℕ, ◌==◌, Bool, true, false, List, [], ◌∷◌, ◌++◌, drop, min, not, Option, Some, None, Result, Ok, Err, if◌then◌else◌}
 use Rattle.std.specs.Fmt.{decimal, signed_decimal}
 use lib.Chars.{codes}
 use Rattle.std.specs.List.{position_or_len}
