@@ -4,7 +4,8 @@ use std::alloc::Global;
 use std::process::Abort;
 use std::test::Fail;
 use strand_base::{MemoryFiles, MemorySink};
-use strand_rules::{ModuleBank, RamModule};
+use strand_image::read_image;
+use strand_rules::{ModuleBank, PlainMachine, RamModule};
 
 const MACHINE: &str = "mode strict\nqueue 64\nbuffers 1\nring 64\nflight 64\nsets 4\nways 2\n";
 
@@ -216,4 +217,12 @@ fn each_end_of_a_conversion(rt: HostRuntime) -> Result<(), Fail> {
         SinkFault,
         ".entry 0\n.code\na",
     )
+}
+
+#[test]
+fn a_machine_shows_its_memory(rt: HostRuntime) -> Result<(), Fail> {
+    let image = read_image(rt.alloc(), &IMAGE)?;
+    let memory = PlainMachine::new(rt.alloc(), &image, 9)?.flatten()?;
+    assert_eq!(rt; memory.persistent.as_slice(), image.persistent());
+    Ok(())
 }
