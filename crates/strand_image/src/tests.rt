@@ -46,8 +46,14 @@ fn each_fault_is_found(rt: HostRuntime) {
             "at {at}"
         );
     }
-    let short = ImageFault::Short { need: 24, have: 23 };
-    assert_eq!(rt; read_image(rt.alloc(), &EXAMPLE[..23]).err(), Some(short));
+    let mut longer = [0; 89];
+    longer[..88].copy_from_slice(&EXAMPLE);
+    let long = ImageFault::Long { need: 88, have: 89 };
+    assert_eq!(rt; read_image(rt.alloc(), &longer).err(), Some(long));
+    let short = ImageFault::Short { need: 88, have: 87 };
+    assert_eq!(rt; read_image(rt.alloc(), &longer[..87]).err(), Some(short));
+    let short = ImageFault::Short { need: 24, have: 0 };
+    assert_eq!(rt; read_image(rt.alloc(), &longer[..0]).err(), Some(short));
 }
 
 #[test]
