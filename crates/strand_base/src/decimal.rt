@@ -36,7 +36,7 @@ pub fn read_decimal(text: &[u8]) -> Result<u64, NumberFault>
 }
 
 /// Appends a number in decimal, without leading zeros. Where memory ran out, a front of the digits is
-/// appended. `read_decimal` gives the number back.
+/// appended.
 pub fn print_decimal(n: u64, into: &mut Vec<u8>) -> Result<(), OutOfMemory>
     ensures { Puts result (decimal n) into.old.items into.new.items }
 {
