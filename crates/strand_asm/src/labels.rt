@@ -4,13 +4,14 @@ ghost use Rattle.strand_asm.specs.Layout.{place_of};
 use crate::place::Place;
 use indexmap::IndexMap;
 use std::alloc::Global;
+use std::hash::{BuildHasherDefault, DefaultHasher};
 use std::marker::Model;
 use strand_base::OutOfMemory;
 
 /// Names with their places, in the order of the text.
 #[derive(Drop)]
 pub(crate) struct Labels {
-    places: IndexMap<String, Place>,
+    places: IndexMap<String, Place, BuildHasherDefault<DefaultHasher>>,
 }
 
 impl Model for Labels {
@@ -28,7 +29,7 @@ impl Labels {
         ensures { result ≡ [] }
     {
         Labels {
-            places: IndexMap::new(alloc),
+            places: IndexMap::with_hasher(alloc, BuildHasherDefault::new()),
         }
     }
 
