@@ -24,8 +24,7 @@ fn is_joined(events: &[Event], k: usize) -> bool
     let mut found = false;
     for j in 0..events.len() {
         if j > k
-            && (matches!(events[j], Event::Join { .. })
-                && events[j].core() == events[k].core())
+            && (matches!(events[j], Event::Join { .. }) && events[j].core() == events[k].core())
         {
             found = true;
         }

@@ -141,7 +141,8 @@ fn gate_seen(trace: &Trace, mode: Mode, since: Since, i: usize, j: usize) -> boo
     ensures { result ≡ gate_seen since mode trace.now.events i j }
 {
     let event = trace.events()[j];
-    (event.is_access() || event.is_barrier()) && (gates(trace, mode, j, i) && is_last(since.gate, i))
+    (event.is_access() || event.is_barrier())
+        && (gates(trace, mode, j, i) && is_last(since.gate, i))
 }
 
 fn barrier_seen(trace: &Trace, mode: Mode, since: Since, i: usize, j: usize) -> bool
