@@ -6,6 +6,8 @@ mod reading;
 mod report;
 mod running;
 mod stepping;
+#[cfg(test)]
+mod tests;
 
 pub use reading::{ReadFault, read_words};
 pub use report::write_report;
