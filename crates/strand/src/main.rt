@@ -7,7 +7,7 @@ use std::io::ErrorKind;
 use std::process::ExitCode;
 use strand_app::strand_main;
 use strand_base::{HostFiles, HostSink};
-use strand_rules::{ModuleBank, RamModule};
+use strand_modules::{ModuleBank, RamModule};
 
 /// The words of the memory module: as many as an image can have persistent words.
 const MODULE_WORDS: u64 = 131_072;

@@ -8,13 +8,14 @@ use Rattle.strand_base.specs.declared.files.FetchFault.{FetchFault}
 use Rattle.strand_base.specs.declared.files.FetchFault.TheVariants as faults
 use Rattle.strand_base.specs.declared.out_of_memory.OutOfMemory.{OutOfMemory}
 use Rattle.strand_report.specs.FaultLines.{file_fault, input_fault}
-use Rattle.strand_rules.proofs.Fronts.{keeps_same}
+use Rattle.strand_modules.proofs.Fronts.{keeps_same}
 use Rattle.strand_app.specs.declared.status.Made.{Made}
 use Rattle.strand_app.specs.declared.status.Status.TheVariants as status
 use Rattle.strand_app.specs.Convert.{Conversion, Converts, asm_text, list_text, converted, convert_answer}
 use Rattle.strand_app.specs.Fetching.{FetchesOne, FetchesResult, FetchFailsOne}
 use Rattle.strand_app.specs.Making.{Gives}
-use Rattle.strand_app.specs.World.{absent, fetch}
+use Rattle.strand_run.specs.Fault.{absent, fetch}
+use Rattle.strand_app.proofs.RunMade.{no_found}
 use Rattle.strand_app.proofs.Opened.{any_content, content_of, fetched_first}
 
 pub text_long : (bytes : List ℕ) → 4194304 < length bytes → asm_text bytes ≡ None
@@ -38,14 +39,14 @@ module _ (f : Conversion) (name : List ℕ) (before after : FilesSeen) (one : Fe
       record {
         contents = content ∷ [];
         fault = absent;
-        held = [];
+        found = no_found;
         files = (content_of before.told name content is, tt);
         allowed = inl refl;
         shown_by_files = fetched_first (name ∷ []) (content ∷ []) before after one kept (is, tt);
         shown_by_bank = refl;
         kept = keeps_same bank;
         leaves = refl;
-        reads = refl;
+        finds = tt;
         status = gives.0;
         text = gives.1;
       }
@@ -64,14 +65,14 @@ module _ (f : Conversion) (name : List ℕ) (before after : FilesSeen) (one : Fe
       record {
         contents = some.0 ∷ [];
         fault = fetch 1;
-        held = [];
+        found = no_found;
         files = (some.1, tt);
         allowed = inr refl;
         shown_by_files = record { told = one.told; rose = failed.rose; count = one.count; name = failed.name_is; read = tt };
         shown_by_bank = refl;
         kept = keeps_same bank;
         leaves = refl;
-        reads = refl;
+        finds = tt;
         status = gives.0;
         text = gives.1;
       }

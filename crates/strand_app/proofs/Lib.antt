@@ -1,8 +1,7 @@
-pub mod Following
+pub mod ReadFiles
 pub mod Opened
-pub mod Stepwise
+pub mod RunMade
 pub mod Ran
 pub mod Converted
-pub mod Whole
 pub mod Causes
-pub mod Crash
+pub mod Headline

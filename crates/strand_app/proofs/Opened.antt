@@ -1,32 +1,22 @@
--- What the files of a run say, from the fetches one after the other.
-use Rattle.std.proofs.Common.{◌≡◌, ℕ, suc, ◌<◌, ◌≤◌, true, false, List, [], ◌∷◌, length, refl, ap, ◌∙◌, arith, inl, inr, subst}
-use Rattle.std.specs.Prelude.{nat_lt, None, Some, Err, IfSome}
+-- What the files of a command say, from the fetches one after the other.
+use Rattle.std.proofs.Common.{◌≡◌, ℕ, zero, suc, ◌+◌, ◌-◌, ◌≤◌, List, [], ◌∷◌, refl, ap, ◌∙◌, arith, subst}
+use Rattle.std.specs.Prelude.{None, Some, Ok, Err, IfSome, slice_get}
+use Rattle.std.specs.Option.{option_map}
 use Rattle.std.specs.declared.option.Option.{Option}
-use Rattle.std.proofs.lemmas.Bool.{lt-ltb}
-use Rattle.std.proofs.lemmas.Option.{same_Some}
+use Rattle.std.specs.declared.result.Result.{Result}
 use Rattle.strand_base.specs.FilesSeen.{FilesSeen, Held, IsFile}
 use Rattle.strand_base.specs.Counts.{next}
-use Rattle.strand_image.specs.Parts.{Parts}
-use Rattle.strand_inputs.specs.declared.stop.Stop.{Stop}
-use Rattle.strand_app.specs.FirstForms.{is_machine, image_in, schedule_in}
-use Rattle.strand_app.specs.Inputs.{Inputs, bad, imaged, inputs_of, run_inputs, fetches_of}
-use Rattle.strand_app.specs.World.{IsContent, AreFiles, AreRead, FetchesFirst}
-use Rattle.strand_app.specs.Fetching.{FetchesOne, FetchesBytes, FetchesResult}
-use Rattle.strand_app.specs.Opening.{FailsToOpen, fault_of}
 use Rattle.strand_base.specs.declared.files.FetchFault.{FetchFault}
 use Rattle.strand_base.specs.declared.files.FetchFault.TheVariants as faults
-
-pub machine_long : (bytes : List ℕ) → 4096 < length bytes → is_machine bytes ≡ false
-unfolding is_machine
-machine_long bytes long = let test : nat_lt 4096 (length bytes) ≡ true = lt-ltb _ _ long in rw test refl
-
-pub image_long : (bytes : List ℕ) → 4194304 < length bytes → image_in bytes ≡ None
-unfolding image_in
-image_long bytes long = let test : nat_lt 4194304 (length bytes) ≡ true = lt-ltb _ _ long in rw test refl
-
-pub schedule_long : (bytes : List ℕ) → 4194304 < length bytes → schedule_in bytes ≡ None
-unfolding schedule_in
-schedule_long bytes long = let test : nat_lt 4194304 (length bytes) ≡ true = lt-ltb _ _ long in rw test refl
+use Rattle.strand_app.specs.declared.opening.OpenFault.{OpenFault}
+use Rattle.strand_app.specs.declared.opening.OpenFault.TheVariants.{Fetch, OutOfMemory}
+use Rattle.strand_app.specs.declared.opening.Opened.{Opened}
+use Rattle.strand_app.specs.declared.opening.Opened.TheVariants.{Bad}
+use Rattle.strand_app.specs.Fetching.{FetchesOne}
+use Rattle.strand_app.specs.Files.{IsContent, AreFiles, AreRead, fetched, FetchesFirst, FetchFails}
+use Rattle.strand_app.specs.Inputs.{Inputs, bad}
+use Rattle.strand_app.specs.Opening.{ReadsFile, Reads, Opens, FailsAt, FailsToOpen, OpensTo, inputs_in, fault_of}
+use Rattle.strand_app.specs.Told.{Told}
 
 -- something stands under each name, where it is told
 pub any_content : (told : Option Held) (name : List ℕ) → (content : List ℕ) × IsContent told name content
@@ -37,113 +27,130 @@ any_content (Some held) name = go (held name)
     go None = ([], tt)
     go (Some bytes) = (bytes, refl)
 
+pub any_contents : (told : Option Held) (names : List (List ℕ)) → (contents : List (List ℕ)) × AreFiles told names contents
+any_contents told [] = ([], tt)
+any_contents told (name ∷ names) = let first = any_content told name in let rest = any_contents told names in (first.0 ∷ rest.0, (first.1, rest.1))
+
 -- what a file holds stands under its name
 pub content_of : (told : Option Held) (name content : List ℕ) → IsFile told name content → IsContent told name content
 content_of None name content is = tt
 content_of (Some held) name content is = rw is refl
 
--- a file's content after a fetch is the one before it
-pub file_before : (before after : FilesSeen) (name content : List ℕ) → FetchesOne before after → IsFile after.told name content → IsFile before.told name content
-file_before before after name content one is = subst (λ t. IsFile t name content) one.told is
+-- one file was fetched
+pub fetched_first : (names contents : List (List ℕ)) (before first : FilesSeen) → FetchesOne before first → first.last_failed ≡ before.last_failed → AreRead before.told names contents 1
+    → FetchesFirst names contents before first 1
+fetched_first names contents before first one kept read = record { told = one.told; later = one.later; count = one.count; last_failed = kept; read = read }
 
--- one file more was fetched
-module _ (names contents : List (List ℕ)) (before : FilesSeen) where
-  pub fetched_first : (first : FilesSeen) → FetchesOne before first → first.last_failed ≡ before.last_failed → AreRead before.told names contents 1 → FetchesFirst names contents before first 1
-  fetched_first first one kept read = record { told = one.told; later = one.later; count = one.count; last_failed = kept; read = read }
+-- no file was fetched
+pub fetched_none : (names contents : List (List ℕ)) (before : FilesSeen) → FetchesFirst names contents before before 0
+fetched_none names contents before = record { told = refl; later = omega arith; count = refl; last_failed = refl; read = tt }
 
-  pub fetched_more : (n : ℕ) (between after : FilesSeen) → FetchesFirst names contents before between n → FetchesOne between after → after.last_failed ≡ between.last_failed
-      → AreRead before.told names contents (suc n) → FetchesFirst names contents before after (suc n)
-  fetched_more n between after so one kept read =
-      record { told = one.told ∙ so.told; later = omega (arith, one.later, so.later); count = one.count ∙ ap next so.count; last_failed = kept ∙ so.last_failed; read = read }
+-- a fetch before others
+fetched_next : (n count : ℕ) → fetched n (next count) ≡ next (fetched n count)
+fetched_next zero count = refl
+fetched_next (suc n) count = ap next (fetched_next n count)
 
--- Each of these says what the files say, from what is known of some of them.
-module _ (m i s : List ℕ) (size : ℕ) (stop : Stop) (before : FilesSeen) where
-  abbrev pub Says : FilesSeen → Inputs → Type 0
-  Says after inputs = (contents : List (List ℕ)) × AreFiles before.told (m ∷ i ∷ s ∷ []) contents
-      × FetchesFirst (m ∷ i ∷ s ∷ []) contents before after (fetches_of contents) × (run_inputs size stop contents ≡ inputs)
+module _ (told : Told) (n size : ℕ) (name : List ℕ) (names : List (List ℕ)) (says : List (List ℕ) → Inputs) (fetches : List (List ℕ) → ℕ) (before between : FilesSeen) (one : FetchesOne before between) where
+  -- the fetch of the first of the files failed
+  pub fails_here : {V W : Type 0} (rule : List ℕ → Option V) (view : W → V) (fault : FetchFault) → Reads rule view name before between (Err fault)
+      → ((content : List ℕ) (contents : List (List ℕ)) → 1 ≤ fetches (content ∷ contents)) → OpensTo told n size (name ∷ names) says fetches before between (Err (fault_of fault (n + 1)))
+  fails_here rule view faults.OutOfMemory failed wants = record { later = one.later; opens = tt; ready = tt; fails = tt }
+  fails_here rule view faults.TooLong failed wants = absurd failed
+  fails_here rule view faults.Failed failed wants =
+      let first = any_content before.told name in
+      let rest = any_contents before.told names in
+      record {
+        later = one.later;
+        opens = tt;
+        ready = tt;
+        fails = (
+          1,
+          refl,
+          record {
+            contents = first.0 ∷ rest.0;
+            files = (first.1, rest.1);
+            fetched = (omega arith, wants first.0 rest.0);
+            fails = record { told = one.told; rose = failed.rose; count = one.count; name = failed.name_is; read = tt };
+          },
+        );
+      }
 
-  says : (after : FilesSeen) (machine image schedule : List ℕ) (n : ℕ) (inputs : Inputs) → IsContent before.told m machine → IsContent before.told i image → IsContent before.told s schedule
-      → fetches_of (machine ∷ image ∷ schedule ∷ []) ≡ n → FetchesFirst (m ∷ i ∷ s ∷ []) (machine ∷ image ∷ schedule ∷ []) before after n
-      → inputs_of size stop machine image schedule ≡ inputs → Says after inputs
-  says after machine image schedule n inputs a b c count first e = (machine ∷ image ∷ schedule ∷ [], (a, (b, (c, tt))), rw count first, e)
+  module _ {V : Type 0} (rule : List ℕ → Option V) (said : Option V) (read : ReadsFile rule name before between said) where
+    -- the first of the files is at fault
+    pub bad_here : (k : ℕ) → ((contents : List (List ℕ)) → says (read.content ∷ contents) ≡ bad k) → ((contents : List (List ℕ)) → fetches (read.content ∷ contents) ≡ 1)
+        → OpensTo told n size (name ∷ names) says fetches before between (Ok (Bad k))
+    bad_here k is wants =
+        let any = any_contents before.told names in
+        record {
+          later = one.later;
+          opens = record {
+            contents = read.content ∷ any.0;
+            files = (content_of before.told name read.content read.file, any.1);
+            first = rw (wants any.0) (fetched_first (name ∷ names) (read.content ∷ any.0) before between one read.last_failed (read.file, tt));
+            is = is any.0;
+          };
+          ready = tt;
+          fails = tt;
+        }
 
-  module _ (first : FilesSeen) (one : FetchesOne before first) where
-    pub says_machine : (machine : List ℕ) → first.last_failed ≡ before.last_failed → IsFile before.told m machine → is_machine machine ≡ false → Says first (bad 1)
-    says_machine machine kept a e =
-        let b = any_content before.told i in
-        let c = any_content before.told s in
-        let contents = machine ∷ b.0 ∷ c.0 ∷ [] in
-        says first machine b.0 c.0 1 (bad 1) (content_of before.told m machine a) b.1 c.1 (rw e refl) (fetched_first (m ∷ i ∷ s ∷ []) contents before first one kept (a, tt)) (rw e refl)
+    module _ (later : List (List ℕ) → Inputs) (more : List (List ℕ) → ℕ) (after : FilesSeen) (is : (contents : List (List ℕ)) → says (read.content ∷ contents) ≡ later contents)
+        (wants : (contents : List (List ℕ)) → fetches (read.content ∷ contents) ≡ suc (more contents)) where
+      first_more : (contents : List (List ℕ)) (m : ℕ) → FetchesFirst names contents between after m → FetchesFirst (name ∷ names) (read.content ∷ contents) before after (suc m)
+      first_more contents m rest =
+          record {
+            told = rest.told ∙ one.told;
+            later = omega (arith, one.later, rest.later);
+            count = rest.count ∙ ap (fetched m) one.count ∙ fetched_next m before.fetches;
+            last_failed = rest.last_failed ∙ read.last_failed;
+            read = (read.file, subst (λ (t : Option Held). AreRead t names contents m) one.told rest.read);
+          }
 
-    pub fails_first : (fault : FetchFault) → FetchesResult {V = List ℕ} (λ x. x) m 4096 before first (Err fault) → FailsToOpen (m ∷ i ∷ s ∷ []) before first (fault_of fault 1)
-    fails_first faults.OutOfMemory failed = tt
-    fails_first faults.TooLong failed = absurd failed
-    fails_first faults.Failed failed =
-        let a = any_content before.told m in
-        let b = any_content before.told i in
-        let c = any_content before.told s in
-        (a.0 ∷ b.0 ∷ c.0 ∷ [], (a.1, (b.1, (c.1, tt))), inl refl, record { told = one.told; rose = failed.rose; count = one.count; name = failed.name_is; read = tt })
+      opens_more : (inputs : Inputs) → Opens names later more between after inputs → Opens (name ∷ names) says fetches before after inputs
+      opens_more inputs rest =
+          record {
+            contents = read.content ∷ rest.contents;
+            files = (content_of before.told name read.content read.file, subst (λ (t : Option Held). AreFiles t names rest.contents) one.told rest.files);
+            first = rw (wants rest.contents) (first_more rest.contents (more rest.contents) rest.first);
+            is = is rest.contents ∙ rest.is;
+          }
 
-    module _ (machine : List ℕ) (kept : first.last_failed ≡ before.last_failed) (a : IsFile before.told m machine) (ok : is_machine machine ≡ true) (second : FilesSeen) (two : FetchesOne first second) where
-      -- the first file was fetched, and then the second
-      both : (image schedule : List ℕ) → second.last_failed ≡ first.last_failed → IsFile before.told i image → FetchesFirst (m ∷ i ∷ s ∷ []) (machine ∷ image ∷ schedule ∷ []) before second 2
-      both image schedule kept2 b =
-          let contents = machine ∷ image ∷ schedule ∷ [] in
-          fetched_more (m ∷ i ∷ s ∷ []) contents before 1 first second (fetched_first (m ∷ i ∷ s ∷ []) contents before first one kept (a, tt)) two kept2 (a, (b, tt))
+      failed_more : (contents : List (List ℕ)) (k : ℕ) → FetchFails names contents between after (suc k) → FetchFails (name ∷ names) (read.content ∷ contents) before after (suc (suc k))
+      failed_more contents k fails =
+          let back : suc (suc k) - 1 ≡ suc k = omega arith in
+          let one_back : suc k - 1 ≡ k = omega arith in
+          record {
+            told = fails.told ∙ one.told;
+            rose = omega (arith, one.later, fails.rose);
+            count = fails.count ∙ ap (fetched (suc k)) one.count ∙ fetched_next (suc k) before.fetches;
+            name = subst (λ (t : Option Held). IfSome t (λ _. after.last_failed ≡ slice_get (name ∷ names) (suc (suc k) - 1))) one.told (rw back (rw one_back at fails.name));
+            read = rw back (read.file, subst (λ (t : Option Held). AreRead t names contents k) one.told (rw one_back at fails.read));
+          }
 
-      pub says_image : (image : List ℕ) → second.last_failed ≡ first.last_failed → IsFile before.told i image → image_in image ≡ None → Says second (bad 2)
-      says_image image kept2 b e =
-          let c = any_content before.told s in
-          says second machine image c.0 2 (bad 2) (content_of before.told m machine a) (content_of before.told i image b) c.1 (rw (ok, e) refl) (both image c.0 kept2 b) (rw (ok, e) refl)
+      fails_more : (k : ℕ) → FailsAt names more between after k → FailsAt (name ∷ names) fetches before after (suc k)
+      fails_more zero rest = let none = rest.fetched.0 in absurd (omega (arith, none))
+      fails_more (suc k) rest =
+          record {
+            contents = read.content ∷ rest.contents;
+            files = (content_of before.told name read.content read.file, subst (λ (t : Option Held). AreFiles t names rest.contents) one.told rest.files);
+            fetched = (omega arith, omega (arith, rest.fetched.1, wants rest.contents));
+            fails = failed_more rest.contents k rest.fails;
+          }
 
-      pub fails_second : (fault : FetchFault) → FetchesResult {V = List ℕ} (λ x. x) i 4194304 first second (Err fault) → FailsToOpen (m ∷ i ∷ s ∷ []) before second (fault_of fault 2)
-      fails_second faults.OutOfMemory failed = tt
-      fails_second faults.TooLong failed = absurd failed
-      fails_second faults.Failed failed =
-          let b = any_content before.told i in
-          let c = any_content before.told s in (
-            machine ∷ b.0 ∷ c.0 ∷ [],
-            (content_of before.told m machine a, (b.1, (c.1, tt))),
-            inr (inl (refl, ok)),
-            record {
-              told = two.told ∙ one.told;
-              rose = omega (arith, one.later, failed.rose);
-              count = two.count ∙ ap next one.count;
-              name = subst (λ (t : Option Held). IfSome t (λ _. second.last_failed ≡ Some i)) one.told failed.name_is;
-              read = (a, tt);
-            },
-          )
+      fails_open : (fault : OpenFault) → FailsToOpen (n + 1) names more between after fault → FailsToOpen n (name ∷ names) fetches before after fault
+      fails_open (Fetch file) rest = (suc rest.0, omega (arith, rest.1), fails_more rest.0 rest.2)
+      fails_open OutOfMemory rest = tt
 
-      module _ (image : List ℕ) (kept2 : second.last_failed ≡ first.last_failed) (b : IsFile before.told i image) (p : Parts) (is : image_in image ≡ Some p) (third : FilesSeen) (three : FetchesOne second third) where
-        pub says_schedule : (schedule : List ℕ) (inputs : Inputs) → third.last_failed ≡ second.last_failed → IsFile before.told s schedule → imaged size stop schedule (Some p) ≡ inputs → Says third inputs
-        says_schedule schedule inputs kept3 c e =
-            says third machine image schedule 3 inputs (content_of before.told m machine a) (content_of before.told i image b) (content_of before.told s schedule c) (rw (ok, is) refl)
-            (fetched_more (m ∷ i ∷ s ∷ []) (machine ∷ image ∷ schedule ∷ []) before 2 second third (both image schedule kept2 b) three kept3 (a, (b, (c, tt)))) (rw (ok, is) e)
+      -- the first of the files is in order, and this comes of the others
+      pub then_others : (result : Result Opened OpenFault) → OpensTo told (n + 1) size names later more between after result → OpensTo told n size (name ∷ names) says fetches before after result
+      then_others (Ok opened) rest = record { later = omega (arith, one.later, rest.later); opens = opens_more (inputs_in opened) rest.opens; ready = rest.ready; fails = tt }
+      then_others (Err fault) rest = record { later = omega (arith, one.later, rest.later); opens = tt; ready = tt; fails = fails_open fault rest.fails }
 
-        pub fails_third : (fault : FetchFault) → FetchesResult {V = List ℕ} (λ x. x) s 4194304 second third (Err fault) → FailsToOpen (m ∷ i ∷ s ∷ []) before third (fault_of fault 3)
-        fails_third faults.OutOfMemory failed = tt
-        fails_third faults.TooLong failed = absurd failed
-        fails_third faults.Failed failed =
-            let c = any_content before.told s in (
-              machine ∷ image ∷ c.0 ∷ [],
-              (content_of before.told m machine a, (content_of before.told i image b, (c.1, tt))),
-              inr (inr (refl, ok, rw is refl)),
-              record {
-                told = three.told ∙ two.told ∙ one.told;
-                rose = omega (arith, one.later, two.later, failed.rose);
-                count = three.count ∙ ap next (two.count ∙ ap next one.count);
-                name = subst (λ (t : Option Held). IfSome t (λ _. third.last_failed ≡ Some s)) (two.told ∙ one.told) failed.name_is;
-                read = (a, (b, tt));
-              },
-            )
+-- no files stand before all of them
+pub first_fails : (names : List (List ℕ)) (fetches : List (List ℕ) → ℕ) (before after : FilesSeen) (file : ℕ) → FailsToOpen 0 names fetches before after (Fetch file) → FailsAt names fetches before after file
+first_fails names fetches before after file fails =
+    let same : fails.0 ≡ file = omega (arith, fails.1) in subst (FailsAt names fetches before after) same fails.2
 
--- what a fetch gave, in the arms of its result
-pub bytes_whole : {V : Type 0} (items : V → List ℕ) (name : List ℕ) (limit : ℕ) (before : FilesSeen) (o : Option V) (bytes : V) → o ≡ Some bytes
-    → FetchesBytes items name limit before o → (length (items bytes) ≤ limit) × IsFile before.told name (items bytes)
-bytes_whole items name limit before None bytes e fetches = absurd cc
-bytes_whole items name limit before (Some other) bytes e fetches = let same = same_Some other bytes e in rw (← same) fetches
-
-pub bytes_long : {V : Type 0} (items : V → List ℕ) (name : List ℕ) (limit : ℕ) (before : FilesSeen) (o : Option V) → o ≡ None
-    → FetchesBytes items name limit before o → (content : List ℕ) × (limit < length content) × IsFile before.told name content
-bytes_long items name limit before None e fetches = fetches
-bytes_long items name limit before (Some other) e fetches = absurd cc
+-- the crash image was the last of the files
+pub map_same : {V : Type 0} (o : Option V) → option_map (λ (x : V). x) o ≡ o
+map_same None = refl
+map_same (Some x) = refl

@@ -1,154 +1,157 @@
--- An image was run on a bank: the fill, the steps, the read at the end.
-use Rattle.std.proofs.Common.{◌≡◌, ℕ, ◌-◌, ◌<◌, ◌≤◌, List, [], length, take, refl, sym, ap, ◌∙◌, arith, inr, subst}
-use Rattle.std.specs.Prelude.{None, Some, Ok, Err, IfOk, OnErr, IfSome, OnSome, slice_get}
-use Rattle.std.specs.declared.result.Result.{Result}
-use Rattle.strand_base.specs.declared.out_of_memory.OutOfMemory.{OutOfMemory}
-use Rattle.strand_app.specs.declared.status.Made.{Made}
+-- What is made of a run on a bank, from how the run ended.
+use Rattle.std.proofs.Common.{◌≡◌, ℕ, List, length, take, refl, sym, ap, ◌∙◌, arith, inl, inr, ◌-◌, subst}
+use Rattle.std.specs.Prelude.{None, Some, Ok, Err, IfOk, OnErr, OnSome}
 use Rattle.std.specs.declared.option.Option.{Option}
-use Rattle.std.proofs.lemmas.List.{length-take-le, take_all}
-use Rattle.std.proofs.lemmas.List.FromFn.{length-map-range_with_len}
+use Rattle.std.specs.declared.result.Result.{Result}
+use Rattle.std.proofs.lemmas.List.{take_all}
 use Rattle.std.proofs.lemmas.Option.{slice_get_within}
+use Rattle.strand_base.specs.declared.out_of_memory.OutOfMemory.{OutOfMemory}
 use Rattle.strand_image.specs.Parts.{Parts}
+use Rattle.strand_inputs.specs.Settings.{Settings}
 use Rattle.strand_inputs.specs.declared.step.Step.{Step}
+use Rattle.strand_judge.specs.Verdicts.{IsVerdict}
+use Rattle.strand_judge.specs.Words.{crash_of}
+use Rattle.strand_judge.specs.declared.verdict.Verdict.TheVariants.{No}
+use Rattle.strand_modules.specs.Bank.{BankSeen, Keeps}
+use Rattle.strand_path.specs.Chosen.{IsChosenChain}
 use Rattle.strand_report.specs.Report.{run_text}
-use Rattle.strand_report.specs.FaultLines.{read_fault, fill_fault}
+use Rattle.strand_report.specs.Trace.{trace_text}
+use Rattle.strand_report.specs.declared.bubbles.BubbleAt.{BubbleAt}
 use Rattle.strand_report.specs.declared.fault_lines.StepFault.{StepFault}
-use Rattle.strand_rules.specs.Bank.{BankSeen, Keeps, Fills, Refuses, store_refused, read_refused, fill_refused, front_written}
+use Rattle.strand_rules.specs.Cycle.{State}
 use Rattle.strand_rules.specs.Visible.{Program}
-use Rattle.strand_rules.specs.Cycle.{State, run, first_persists, persistent_image}
-use Rattle.strand_rules.specs.Machine.{Machine, machine_at, program_of, start_of}
-use Rattle.strand_rules.proofs.Fronts.{keeps_trans, refuses_after}
-use Rattle.strand_rules.proofs.Stored.{image_begins}
-use Rattle.strand_run.proofs.Ended.{held_is, refuses_before}
-use Rattle.strand_app.specs.declared.status.Status.{Status}
+use Rattle.strand_rules.specs.Machine.{program_of, start_of, durable_persists}
+use Rattle.strand_run.specs.Fault.{Fault, absent, fetch, fill, step, read, step_and_read}
+use Rattle.strand_run.specs.Outcome.{RunsTo, Tells, Allows, Leaves, MayLeave, StandsAfter, StepStores, report_of, fault_of, then_read, words_of_state}
+use Rattle.strand_run.specs.Stepping.{steps_made, bubbles_in}
+use Rattle.strand_run.specs.declared.running.Run.{Run}
+use Rattle.strand_run.specs.declared.running.RunEnd.{RunEnd}
+use Rattle.strand_run.specs.declared.running.RunEnd.TheVariants.{FillRefused, ReadRefused, Told as Ended}
+use Rattle.strand_app.specs.declared.status.Made.{Made}
 use Rattle.strand_app.specs.declared.status.Status.TheVariants as status
-use Rattle.strand_app.specs.World.{absent, step, read, step_and_read, fill}
-use Rattle.strand_app.specs.RunAnswer.{state_after, words_of_state, good_answer, NextStores, StoresAt, ReadsAfter, StandsAfter, MayLeaveGood}
-use Rattle.strand_app.specs.Making.{MakesOnBank, Gives, status_of, steps_before}
-use Rattle.strand_app.specs.Stepping.{MakesSteps, StepsTo}
+use Rattle.strand_app.specs.Inputs.{Setup}
+use Rattle.strand_app.specs.Making.{GivesReport, GivesBy, GivesEnd, IsOfImage, MakesOnBank}
+use Rattle.strand_app.specs.RunAnswer.{Found, state_of, report_after, good_answer, GoodFinds, Reports}
+use Rattle.strand_app.specs.Told.{Told, report, verdict, events}
+use Rattle.strand_app.proofs.RunMade.{no_found}
 
-image_length : (p : Parts) (s : State) → length (words_of_state p s) ≡ length p.persistent
-unfolding persistent_image
-image_length p s = length-map-range_with_len _ 0 (length p.persistent)
-
-step_within : (count : ℕ) (program : Program) (s : State) (steps : List Step) (k m : ℕ) → StoresAt count program s steps k m → k - 1 ≤ length steps
-step_within count program s steps k m stores = go (slice_get steps (k - 1)) refl stores.1
-  where
-    go : (o : Option Step) → slice_get steps (k - 1) ≡ o → NextStores count program (run program s (take (k - 1) steps)) o m → k - 1 ≤ length steps
-    go None e next = absurd next
-    go (Some x) e next = omega (arith, slice_get_within steps (k - 1) x e)
-
-module _ (p : Parts) (steps : List Step) (m0 m1 : Machine) (b0 b1 b2 b3 : BankSeen) (start : m0 ≡ machine_at p (length steps))
-    (fills : Fills {T = Unit {0}} b0 b1 p.persistent (Ok tt)) where
-  -- what the steps left, in the words of the image
-  pub record Left (fault : Option StepFault) : Type 0 where
-    pub to : StepsTo (machine_at p (length steps)) m1.state steps b1 b2 fault
-    pub kept : Keeps b0 b2
-    pub stands : b2.told ≡ front_written (words_of_state p m1.state) b0.told
-
-  pub left : (fault : Option StepFault) → MakesSteps m0 m1 steps b1 b2 fault → Left fault
-  left fault made =
-      let again : MakesSteps (machine_at p (length steps)) m1 steps b1 b2 fault = subst (λ (m : Machine). MakesSteps m m1 steps b1 b2 fault) start made in
+module _ (told : Told) (u : Setup) (before after : BankSeen) where
+  -- from a run's end, and the answer for its fault
+  answered : (end : RunEnd) (ran : RunsTo u.config u.image u.steps before after end) (fault : Fault) (found : Found) (made : Made) → ran.fault ≡ fault → GoodFinds told u fault before found
+      → made.status ≡ (good_answer told u fault found).status → made.text.items ≡ (good_answer told u fault found).text → MakesOnBank told u before after made.status made.text.items
+  answered end ran fault found made is finds status text =
       record {
-        to = again.steps_to;
-        kept = keeps_trans b0 b1 b2 fills.kept again.kept;
-        stands = again.stands p.persistent b0.told refl (fills.done ∙ ap (λ (words : List ℕ). front_written words b0.told) (sym (image_begins p.persistent (first_persists [] 0))));
+        fault = ran.fault;
+        found = found;
+        allowed = ran.allowed;
+        shown = ran.shown;
+        kept = ran.kept;
+        leaves = ran.leaves;
+        finds = subst (λ (f : Fault). GoodFinds told u f before found) (sym is) finds;
+        status = subst (λ (f : Fault). made.status ≡ (good_answer told u f found).status) (sym is) status;
+        text = subst (λ (f : Fault). made.text.items ≡ (good_answer told u f found).text) (sym is) text;
       }
 
-  -- the words that were read, after these steps
-  reads : (fault : Option StepFault) (held : List ℕ) (made : List Step) → Left fault → m1.state ≡ state_after p made → length held ≡ length p.persistent
-      → IfSome b2.told (λ words. held ≡ take (length p.persistent) words) → ReadsAfter p made b0 held
-  reads fault held made so state long words =
-      (long, subst (λ (s : State). OnSome b0.told (held ≡ words_of_state p s)) state (held_is b0.told b2.told (words_of_state p m1.state) held (length p.persistent) (image_length p m1.state) so.stands words))
-
-  -- the words were read
-  pub ran : (fault : Option StepFault) (held : List ℕ) → Left fault → Keeps b2 b3 → b3.told ≡ b2.told → b3.refused ≡ b2.refused → length held ≡ length p.persistent
-      → IfSome b2.told (λ words. held ≡ take (length p.persistent) words)
-      → MakesOnBank p steps b0 b3 (status_of fault) (run_text (steps_before fault (length steps)) m1.state.now.cores m1.state.now.trace held fault)
+  fill_refused : (m : ℕ) (made : Made) → RunsTo u.config u.image u.steps before after (FillRefused m) → GivesEnd told u (FillRefused m) made → MakesOnBank told u before after made.status made.text.items
   unfolding good_answer
-  ran None held so kept same refused count words =
-      let state = so.to.0 in
-      record {
-        fault = absent;
-        allowed = tt;
-        shown = refused ∙ so.to.1 ∙ fills.accepted;
-        kept = keeps_trans b0 b2 b3 so.kept kept;
-        leaves = same ∙ subst (λ (s : State). b2.told ≡ front_written (words_of_state p s) b0.told) state so.stands;
-        held = held;
-        reads = reads None held steps so state count words;
-        status = refl;
-        text = ap (λ (s : State). run_text (length steps) s.now.cores s.now.trace held None) state;
-      }
-  ran (Some f) held so kept same refused count words =
-      let state = so.to.0 in
-      let within = step_within (length b1.faults) (program_of p) (start_of p) steps f.step f.«module» so.to.1 in
-      let long : length (take (f.step - 1) steps) ≡ f.step - 1 = length-take-le (f.step - 1) steps within in
-      record {
-        fault = step f.step f.«module»;
-        allowed = subst (λ (n : ℕ). StoresAt n (program_of p) (start_of p) steps f.step f.«module») fills.kept.count so.to.1;
-        shown = refuses_before store_refused b0 b2 b3 f.«module» kept refused (refuses_after store_refused b0 b1 b2 f.«module» fills.kept fills.accepted so.to.2);
-        kept = keeps_trans b0 b2 b3 so.kept kept;
-        leaves = same ∙ subst (λ (s : State). b2.told ≡ front_written (words_of_state p s) b0.told) state so.stands;
-        held = held;
-        reads = reads (Some f) held (take (f.step - 1) steps) so state count words;
-        status = refl;
-        text = ap (λ (s : State). run_text (f.step - 1) s.now.cores s.now.trace held (Some f)) state ∙ ap (λ (n : ℕ). run_text n (state_after p (take (f.step - 1) steps)).now.cores (state_after p (take (f.step - 1) steps)).now.trace held (Some f)) (sym long);
-      }
+  fill_refused m made ran gives = answered (FillRefused m) ran (fill m) no_found made ran.is tt gives.0 gives.1
 
-  -- module n refused the read
-  pub read_refuses : (fault : Option StepFault) (n : ℕ) → Left fault → Keeps b2 b3 → b3.told ≡ b2.told → Refuses read_refused b2 b3 n
-      → MakesOnBank p steps b0 b3 status.ModuleFault (read_fault n)
+  read_refused : (n : ℕ) (made : Made) → RunsTo u.config u.image u.steps before after (ReadRefused n) → GivesEnd told u (ReadRefused n) made → MakesOnBank told u before after made.status made.text.items
   unfolding good_answer
-  read_refuses None n so kept same refused =
-      record {
-        fault = read n;
-        allowed = omega (arith, refused.exists, so.kept.count);
-        shown = refuses_after read_refused b0 b2 b3 n so.kept (so.to.1 ∙ fills.accepted) refused;
-        kept = keeps_trans b0 b2 b3 so.kept kept;
-        leaves = same ∙ subst (λ (s : State). b2.told ≡ front_written (words_of_state p s) b0.told) so.to.0 so.stands;
-        held = [];
-        reads = tt;
-        status = refl;
-        text = refl;
-      }
-  read_refuses (Some f) n so kept same refused =
-      record {
-        fault = step_and_read f.step f.«module» n;
-        allowed = (subst (λ (n : ℕ). StoresAt n (program_of p) (start_of p) steps f.step f.«module») fills.kept.count so.to.1, omega (arith, refused.exists, so.kept.count));
-        shown = record { between = b2; first = refuses_after store_refused b0 b1 b2 f.«module» fills.kept fills.accepted so.to.2; second = refused };
-        kept = keeps_trans b0 b2 b3 so.kept kept;
-        leaves = same ∙ subst (λ (s : State). b2.told ≡ front_written (words_of_state p s) b0.told) so.to.0 so.stands;
-        held = [];
-        reads = tt;
-        status = refl;
-        text = refl;
-      }
+  read_refused n made ran gives = go ran.is.0 ran.is.1
+    where
+      go : (f : Option StepFault) → ran.fault ≡ then_read f n → MakesOnBank told u before after made.status made.text.items
+      go None is = answered (ReadRefused n) ran (read n) no_found made is tt gives.0 gives.1
+      go (Some f) is = answered (ReadRefused n) ran (step_and_read f.step f.«module» n) no_found made is tt gives.0 gives.1
 
-  -- there was no memory behind the steps
-  pub may_leave : (fault : Option StepFault) → Left fault → Keeps b2 b3 → b3.told ≡ b2.told → Keeps b0 b3 × MayLeaveGood p steps b0 b3
-  may_leave None so kept same =
-      let all : take (length steps) steps ≡ steps = take_all (length steps) steps (omega arith) in (
-        keeps_trans b0 b2 b3 so.kept kept,
-        inr (inr (length steps, omega arith, subst (λ (xs : List Step). StandsAfter p xs b0 b3) (sym all) (same ∙ subst (λ (s : State). b2.told ≡ front_written (words_of_state p s) b0.told) so.to.0 so.stands))),
-      )
-  may_leave (Some f) so kept same = (
-    keeps_trans b0 b2 b3 so.kept kept,
-    inr (inr (f.step - 1, step_within (length b1.faults) (program_of p) (start_of p) steps f.step f.«module» so.to.1, same ∙ subst (λ (s : State). b2.told ≡ front_written (words_of_state p s) b0.told) so.to.0 so.stands)),
-  )
+  module _ (r : Run) (ran : RunsTo u.config u.image u.steps before after (Ended r)) where
+    tells : Tells u.config u.image u.steps before r
+    tells = ran.is.1
 
--- module m refused the fill
-pub fill_refuses : (p : Parts) (steps : List Step) (b0 b1 : BankSeen) (m n : ℕ) → Keeps b0 b1 → n < length p.persistent → b1.told ≡ front_written (take n p.persistent) b0.told → Refuses fill_refused b0 b1 m
-    → MakesOnBank p steps b0 b1 status.ModuleFault (fill_fault m)
-unfolding good_answer
-fill_refuses p steps b0 b1 m n kept few told refused =
-    record { fault = fill m; allowed = refused.exists; shown = refused; kept = kept; leaves = (n, few, told); held = []; reads = tt; status = refl; text = refl }
+    -- a report by the parts of a run that can be told otherwise
+    abbrev text_of : List ℕ → ℕ → State → List BubbleAt → Option StepFault → List ℕ
+    text_of chain stop s bubbles o = run_text stop s.now.cores s.now.trace bubbles s.now.memory r.held.items (durable_persists s) chain o
 
--- the same of a call's result
-pub gives_made : (p : Parts) (steps : List Step) (b0 b3 : BankSeen) (end : Status) (text : List ℕ) (r : Result Made OutOfMemory) → Gives end text r → MakesOnBank p steps b0 b3 end text
-    → IfOk r (λ made. MakesOnBank p steps b0 b3 made.status made.text.items)
-gives_made p steps b0 b3 end text (Ok made) gives on = rw (gives.0, gives.1) on
-gives_made p steps b0 b3 end text (Err e) gives on = tt
+    state_is : (o : Option StepFault) → r.fault ≡ o → r.machine.state ≡ state_of u (steps_made o u.steps)
+    state_is o is = subst (λ (x : Option StepFault). r.machine.state ≡ state_of u (steps_made x u.steps)) is tells.state
 
-pub or_leaves : {P : Type 0} (r : Result Made OutOfMemory) → P → OnErr r P
-or_leaves (Ok made) h = tt
-or_leaves (Err e) h = h
+    -- the report of the steps that were made
+    reported : (o : Option StepFault) (chain : List ℕ) → r.fault ≡ o → report_of r chain ≡ report_after u (steps_made o u.steps) (record { held = r.held.items; chain = chain; judged = No 0 0 }) o
+    reported o chain is =
+        let stop : r.machine.made ≡ length (steps_made o u.steps) = subst (λ (x : Option StepFault). r.machine.made ≡ length (steps_made x u.steps)) is tells.made in
+        let bubbles : r.bubbles.items ≡ bubbles_in u.config (program_of u.image) (start_of u.image) (steps_made o u.steps) =
+        subst (λ (x : Option StepFault). r.bubbles.items ≡ bubbles_in u.config (program_of u.image) (start_of u.image) (steps_made x u.steps)) is tells.bubbles in
+        ap (λ (n : ℕ). text_of chain n r.machine.state r.bubbles.items r.fault) stop
+        ∙ ap (λ (s : State). text_of chain (length (steps_made o u.steps)) s r.bubbles.items r.fault) (state_is o is)
+        ∙ ap (λ (bs : List BubbleAt). text_of chain (length (steps_made o u.steps)) (state_of u (steps_made o u.steps)) bs r.fault) bubbles
+        ∙ ap (text_of chain (length (steps_made o u.steps)) (state_of u (steps_made o u.steps)) (bubbles_in u.config (program_of u.image) (start_of u.image) (steps_made o u.steps))) is
+
+    reports : (o : Option StepFault) (chain : List ℕ) → r.fault ≡ o → IsChosenChain u.config.mode r.machine.state.now.trace chain
+        → Reports u (steps_made o u.steps) before (record { held = r.held.items; chain = chain; judged = No 0 0 })
+    reports o chain is chosen =
+        record {
+          count = tells.count;
+          words = subst (λ (x : Option StepFault). OnSome before.told (r.held.items ≡ words_of_state u.image (state_of u (steps_made x u.steps)))) is tells.held;
+          chain = subst (λ (s : State). IsChosenChain u.config.mode s.now.trace chain) (state_is o is) chosen;
+        }
+
+    whole : (made : Made) (t : Told) → told ≡ t → r.fault ≡ None → ran.fault ≡ absent → GivesBy t u r None made → MakesOnBank told u before after made.status made.text.items
+    unfolding good_answer
+    whole made report e none is gives =
+        let chain = gives.1.chain in
+        let found : Found = record { held = r.held.items; chain = chain; judged = No 0 0 } in
+        answered (Ended r) ran absent found made is (rw e (reports None chain none gives.1.chosen)) (rw e gives.0) (rw e (gives.1.is ∙ reported None chain none))
+    whole made verdict e none is gives =
+        let found : Found = record { held = r.held.items; chain = r.held.items; judged = gives.judged } in
+        let state = state_is None none in
+        answered (Ended r) ran absent found made is (rw e (subst (λ (s : State). IsVerdict u.config.mode s.now.trace (crash_of u.image.persistent u.crash) gives.judged) state gives.is)) (rw e gives.status) (rw e gives.text)
+    whole made events e none is gives =
+        let state = state_is None none in
+        answered (Ended r) ran absent no_found made is (rw e tt) (rw e gives.0) (rw e (gives.1 ∙ ap (λ (s : State). trace_text u.config.mode s.now.trace) state))
+
+    stopped : (made : Made) (f : StepFault) → r.fault ≡ Some f → ran.fault ≡ step f.step f.«module» → GivesReport u r status.ModuleFault made → MakesOnBank told u before after made.status made.text.items
+    unfolding good_answer
+    stopped made f some is gives =
+        let chain = gives.1.chain in
+        let found : Found = record { held = r.held.items; chain = chain; judged = No 0 0 } in
+        answered (Ended r) ran (step f.step f.«module») found made is (reports (Some f) chain some gives.1.chosen) gives.0 (gives.1.is ∙ reported (Some f) chain some)
+
+    told_of : (made : Made) (o : Option StepFault) → r.fault ≡ o → ran.fault ≡ fault_of o → GivesBy told u r o made → MakesOnBank told u before after made.status made.text.items
+    told_of made None none is gives = whole made told refl none is gives
+    told_of made (Some f) some is gives = stopped made f some is gives
+
+  made_of : (end : RunEnd) (made : Made) → RunsTo u.config u.image u.steps before after end → GivesEnd told u end made → MakesOnBank told u before after made.status made.text.items
+  made_of (FillRefused m) made ran gives = fill_refused m made ran gives
+  made_of (ReadRefused n) made ran gives = read_refused n made ran gives
+  made_of (Ended r) made ran gives = told_of r ran made r.fault refl ran.is.0 gives
+
+  pub makes_on_bank : (end : RunEnd) (result : Result Made OutOfMemory) → RunsTo u.config u.image u.steps before after end → IfOk result (GivesEnd told u end)
+      → IfOk result (λ made. MakesOnBank told u before after made.status made.text.items)
+  makes_on_bank end (Ok made) ran gives = made_of end made ran gives
+  makes_on_bank end (Err e) ran gives = tt
+
+-- what may stand after a run, whatever was made of it
+all_made : (g : Settings) (p : Parts) (steps : List Step) (before after : BankSeen) → StandsAfter g p steps before after → MayLeave g p steps before after
+all_made g p steps before after stands = inr (inr (length steps, omega arith, subst (λ (made : List Step). StandsAfter g p made before after) (sym (take_all (length steps) steps (omega arith))) stands))
+
+some_made : (g : Settings) (p : Parts) (steps : List Step) (before after : BankSeen) (count k m : ℕ) → StepStores count g p steps k m → StandsAfter g p (take (k - 1) steps) before after → MayLeave g p steps before after
+some_made g p steps before after count k m stores stands = inr (inr (k - 1, omega (arith, slice_get_within steps (k - 1) stores.step stores.there), stands))
+
+may_leave : (count : ℕ) (g : Settings) (p : Parts) (steps : List Step) (before after : BankSeen) (fault : Fault) → Allows count g p steps fault → Leaves g p steps fault before after → MayLeave g p steps before after
+may_leave count g p steps before after absent allowed leaves = all_made g p steps before after leaves.0
+may_leave count g p steps before after (fetch k) allowed leaves = absurd allowed
+may_leave count g p steps before after (fill m) allowed leaves = inr (inl (leaves.0, leaves.2))
+may_leave count g p steps before after (step k m) allowed leaves = some_made g p steps before after count k m allowed leaves.0
+may_leave count g p steps before after (read m) allowed leaves = all_made g p steps before after leaves.3.0
+may_leave count g p steps before after (step_and_read k m n) allowed leaves = some_made g p steps before after count k m allowed.0 leaves.3.0
+
+pub left_of : (g : Settings) (p : Parts) (steps : List Step) (before after : BankSeen) (end : RunEnd) (result : Result Made OutOfMemory) → RunsTo g p steps before after end
+    → OnErr result (Keeps before after × MayLeave g p steps before after)
+left_of g p steps before after end (Ok made) ran = tt
+left_of g p steps before after end (Err e) ran = (ran.kept, may_leave (length before.faults) g p steps before after ran.fault ran.allowed ran.leaves)
+
+-- a run that was told is one of its image
+pub of_image : (g : Settings) (p : Parts) (steps : List Step) (before after : BankSeen) (end : RunEnd) → RunsTo g p steps before after end → IsOfImage p end
+of_image g p steps before after (FillRefused m) ran = tt
+of_image g p steps before after (ReadRefused n) ran = tt
+of_image g p steps before after (Ended r) ran = ap (λ (program : Program). program.sizes.persistent) ran.is.1.program

@@ -10,11 +10,12 @@ use Rattle.strand_asm.specs.Assemble.{assembled}
 use Rattle.strand_asm.specs.Listing.{listing}
 use Rattle.strand_asm.specs.declared.fault.AsmFault.{AsmFault}
 use Rattle.strand_report.specs.FaultLines.{file_fault, input_fault}
-use Rattle.strand_rules.specs.Bank.{BankSeen}
+use Rattle.strand_modules.specs.Bank.{BankSeen}
 use Rattle.strand_app.specs.declared.status.Status.{Status}
 use Rattle.strand_app.specs.declared.status.Status.TheVariants as status
-use Rattle.strand_app.specs.RunAnswer.{answer}
-use Rattle.strand_app.specs.World.{Answer, Fault, absent, fetch, Makes, world}
+use Rattle.strand_run.specs.Fault.{Fault, absent, fetch}
+use Rattle.strand_app.specs.RunAnswer.{Answer, Found, answer}
+use Rattle.strand_app.specs.World.{Makes, world}
 
 -- what a command makes of a file's bytes; the file is at fault where it makes nothing
 abbrev pub Conversion : Type 0
@@ -44,9 +45,9 @@ abbrev pub converted_file : Conversion → List (List ℕ) → Answer
 converted_file f (content ∷ []) = converted (f content)
 converted_file f _ = converted None
 
-unfoldable pub convert_answer : Conversion → List (List ℕ) → Fault → List ℕ → Answer
-convert_answer f contents (fetch k) held = answer status.FileFault (file_fault k)
-convert_answer f contents _ held = converted_file f contents
+unfoldable pub convert_answer : Conversion → List (List ℕ) → Fault → Found → Answer
+convert_answer f contents (fetch k) found = answer status.FileFault (file_fault k)
+convert_answer f contents _ found = converted_file f contents
 
 -- One file is fetched.
 abbrev pub one_fetch : List (List ℕ) → ℕ
@@ -55,9 +56,9 @@ one_fetch contents = 1
 abbrev pub ConvertAllows : List (List ℕ) → Fault → Type 0
 ConvertAllows contents fault = (fault ≡ absent) ⊎ (fault ≡ fetch 1)
 
--- The bank isn't touched, and nothing is read from it.
-abbrev pub ConvertReads : List (List ℕ) → Fault → BankSeen → List ℕ → Type 0
-ConvertReads contents fault before held = held ≡ []
+-- No run is made, and the bank isn't touched.
+abbrev pub ConvertFinds : List (List ℕ) → Fault → BankSeen → Found → Type 0
+ConvertFinds contents fault before found = Unit {0}
 
 abbrev pub ConvertLeaves : List (List ℕ) → Fault → BankSeen → BankSeen → Type 0
 ConvertLeaves contents fault before after = after ≡ before
@@ -65,4 +66,4 @@ ConvertLeaves contents fault before after = after ≡ before
 -- what such a command makes of the file of this name, whatever the bank
 abbrev pub Converts : Conversion → List ℕ → FilesSeen → FilesSeen → Status → List ℕ → Type 0
 Converts f name before after end put =
-    (bank : BankSeen) → Makes (name ∷ []) (convert_answer f) one_fetch ConvertAllows ConvertReads ConvertLeaves (world before bank) (world after bank) end put
+    (bank : BankSeen) → Makes (name ∷ []) (convert_answer f) one_fetch ConvertAllows ConvertFinds ConvertLeaves (world before bank) (world after bank) end put

@@ -1,11 +1,11 @@
 pub mod StatusCode
-pub mod FirstForms
+pub mod Told
 pub mod Inputs
+pub mod Files
 pub mod World
 pub mod RunAnswer
 pub mod Fetching
 pub mod Opening
-pub mod Stepping
 pub mod Making
 pub mod Convert
 pub mod Command
@@ -13,4 +13,4 @@ pub mod CommandView
 pub mod Ends
 pub mod Runs
 pub mod Causes
-pub mod Crash
+pub mod Headline

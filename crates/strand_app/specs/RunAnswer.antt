@@ -1,139 +1,135 @@
--- The command `run MACHINE IMAGE SCHEDULE STOP`: what it puts, which faults its files allow, and what it leaves in the bank.
-use Rattle.std.specs.Prelude.{◌≡◌, ◌⊎◌, ℕ, ◌-◌, ◌%◌, ◌<◌, ◌≤◌, List, length, take, slice_get, Some, None, OnSome}
+-- The commands that step a machine: what they put, which faults their files allow, and what they leave in the bank.
+use Rattle.std.specs.Prelude.{◌≡◌, ℕ, ◌-◌, List, length, take, Some, None, OnSome}
 use Rattle.std.specs.declared.option.Option.{Option}
-use Rattle.strand_image.specs.Parts.{Parts}
 use Rattle.strand_inputs.specs.declared.step.Step.{Step}
 use Rattle.strand_inputs.specs.declared.stop.Stop.{Stop}
-use Rattle.strand_rules.specs.Bank.{BankSeen, front_written}
-use Rattle.strand_rules.specs.declared.turn.Turn.TheVariants.{Done}
-use Rattle.strand_rules.specs.Cycle.{State, Request, turn, run, durable_set, persistent_image}
-use Rattle.strand_rules.specs.Visible.{Program}
-use Rattle.strand_rules.specs.Machine.{program_of, start_of, stored_by}
+use Rattle.strand_modules.specs.Bank.{BankSeen}
+use Rattle.strand_events.specs.declared.event.Event.{Event}
+use Rattle.strand_judge.specs.Verdicts.{IsVerdict}
+use Rattle.strand_judge.specs.Words.{crash_of}
+use Rattle.strand_judge.specs.declared.verdict.Verdict.{Verdict}
+use Rattle.strand_judge.specs.declared.verdict.Verdict.TheVariants.{Yes, No}
+use Rattle.strand_path.specs.Chosen.{IsChosenChain}
+use Rattle.strand_rules.specs.Cycle.{State}
+use Rattle.strand_rules.specs.Machine.{program_of, start_of, durable_persists}
 use Rattle.strand_report.specs.Report.{run_text}
+use Rattle.strand_report.specs.Trace.{trace_text}
+use Rattle.strand_report.specs.Verdict.{verdict_text}
 use Rattle.strand_report.specs.FaultLines.{file_fault, input_fault, fill_fault, read_fault}
 use Rattle.strand_report.specs.declared.fault_lines.StepFault.{StepFault}
+use Rattle.strand_run.specs.Fault.{Fault, absent, fetch, fill, step, read, step_and_read}
+use Rattle.strand_run.specs.Outcome.{Allows, Leaves, MayLeave, state_after, words_of_state}
+use Rattle.strand_run.specs.Stepping.{bubbles_in}
 use Rattle.strand_app.specs.declared.status.Status.{Status}
 use Rattle.strand_app.specs.declared.status.Status.TheVariants as status
-use Rattle.strand_app.specs.Inputs.{Inputs, bad, good, run_inputs, IsFetched}
-use Rattle.strand_app.specs.World.{Answer, Fault, absent, fetch, fill, step, read, step_and_read}
+use Rattle.strand_app.specs.Told.{Told, report, verdict, events}
+use Rattle.strand_app.specs.Inputs.{Inputs, Setup, bad, good, run_inputs, fetches_of, IsFetched}
+
+pub record Answer : Type 0 where
+  pub status : Status
+  pub text : List ℕ
 
 abbrev pub answer : Status → List ℕ → Answer
 answer end text = record { status = end; text = text }
 
--- the state after some steps of an image's cores
-abbrev pub state_after : Parts → List Step → State
-state_after p steps = run (program_of p) (start_of p) steps
+-- what a run was found to hold: the words that were read from the bank, the chosen chain, and the verdict
+pub record Found : Type 0 where
+  pub held : List ℕ
+  pub chain : List ℕ
+  pub judged : Verdict
 
--- the persistent words that the durable set of a state leaves
-abbrev pub words_of_state : Parts → State → List ℕ
-words_of_state p s = persistent_image p.persistent s.now.trace (durable_set s)
+-- the state after some steps
+abbrev pub state_of : Setup → List Step → State
+state_of u steps = state_after u.config u.image steps
 
--- the report after some steps, where the bank was read to hold these words
-abbrev pub report_after : Parts → List Step → List ℕ → Option StepFault → List ℕ
-report_after p steps held fault = run_text (length steps) (state_after p steps).now.cores (state_after p steps).now.trace held fault
+abbrev pub trace_of : Setup → List Step → List Event
+trace_of u steps = (state_of u steps).now.trace
 
--- what is put for an image and the steps that are to be made
-unfoldable pub good_answer : Parts → List Step → Fault → List ℕ → Answer
-good_answer p steps absent held = answer status.Ok (report_after p steps held None)
-good_answer p steps (fetch k) held = answer status.FileFault (file_fault k)
-good_answer p steps (fill m) held = answer status.ModuleFault (fill_fault m)
-good_answer p steps (step k m) held = answer status.ModuleFault (report_after p (take (k - 1) steps) held (Some (record { «module» = m; step = k })))
-good_answer p steps (read m) held = answer status.ModuleFault (read_fault m)
-good_answer p steps (step_and_read k m n) held = answer status.ModuleFault (read_fault n)
+-- the report after some steps
+abbrev pub report_after : Setup → List Step → Found → Option StepFault → List ℕ
+report_after u steps found fault =
+    run_text (length steps) (state_of u steps).now.cores (trace_of u steps) (bubbles_in u.config (program_of u.image) (start_of u.image) steps) (state_of u steps).now.memory
+    found.held (durable_persists (state_of u steps)) found.chain fault
 
-unfoldable pub inputs_answer : Inputs → Fault → List ℕ → Answer
-inputs_answer (bad k) (fetch j) held = answer status.FileFault (file_fault j)
-inputs_answer (bad k) _ held = answer status.Input (input_fault k)
-inputs_answer (good p steps) fault held = good_answer p steps fault held
+abbrev pub verdict_status : Verdict → Status
+verdict_status (Yes list) = status.Ok
+verdict_status (No word rank) = status.No
+
+-- what is put of a run without faults
+abbrev pub told_answer : Told → Setup → Found → Answer
+told_answer report u found = answer status.Ok (report_after u u.steps found None)
+told_answer verdict u found = answer (verdict_status found.judged) (verdict_text found.judged)
+told_answer events u found = answer status.Ok (trace_text u.config.mode (trace_of u u.steps))
+
+-- what is put of a run: where a store was refused, the report of the steps before it
+unfoldable pub good_answer : Told → Setup → Fault → Found → Answer
+good_answer told u absent found = told_answer told u found
+good_answer told u (fetch k) found = answer status.FileFault (file_fault k)
+good_answer told u (fill m) found = answer status.ModuleFault (fill_fault m)
+good_answer told u (step k m) found = answer status.ModuleFault (report_after u (take (k - 1) u.steps) found (Some (record { «module» = m; step = k })))
+good_answer told u (read m) found = answer status.ModuleFault (read_fault m)
+good_answer told u (step_and_read k m n) found = answer status.ModuleFault (read_fault n)
+
+unfoldable pub inputs_answer : Told → Inputs → Fault → Found → Answer
+inputs_answer told (bad k) (fetch j) found = answer status.FileFault (file_fault j)
+inputs_answer told (bad k) _ found = answer status.Input (input_fault k)
+inputs_answer told (good u) fault found = good_answer told u fault found
 
 -- for a bank of so many words
-abbrev pub run_answer : ℕ → Stop → List (List ℕ) → Fault → List ℕ → Answer
-run_answer size stop contents fault held = inputs_answer (run_inputs size stop contents) fault held
+abbrev pub run_answer : Told → ℕ → Stop → List (List ℕ) → Fault → Found → Answer
+run_answer told size stop contents fault found = inputs_answer told (run_inputs size stop contents) fault found
 
--- The words that were read are as many as the image's persistent words; where the bank tells its words they are those of the durable set.
-abbrev pub ReadsAfter : Parts → List Step → BankSeen → List ℕ → Type 0
-ReadsAfter p steps before held = (length held ≡ length p.persistent) × OnSome before.told (held ≡ words_of_state p (state_after p steps))
+-- The words that were read are as many as the image's persistent words; where the bank tells its words they are those of the durable set. The chain is the chosen one.
+pub record Reports (u : Setup) (steps : List Step) (before : BankSeen) (found : Found) : Type 0 where
+  pub count : length found.held ≡ length u.image.persistent
+  pub words : OnSome before.told (found.held ≡ words_of_state u.image (state_of u steps))
+  pub chain : IsChosenChain u.config.mode (trace_of u steps) found.chain
 
--- what a report was made from
-abbrev pub GoodReads : Parts → List Step → Fault → BankSeen → List ℕ → Type 0
-GoodReads p steps absent before held = ReadsAfter p steps before held
-GoodReads p steps (step k m) before held = ReadsAfter p (take (k - 1) steps) before held
-GoodReads p steps _ before held = Unit {0}
+-- the judge's verdict on a crash image after a run
+abbrev pub Judges : Setup → Verdict → Type 0
+Judges u judged = IsVerdict u.config.mode (trace_of u u.steps) (crash_of u.image.persistent u.crash) judged
 
-abbrev pub InputsRead : Inputs → Fault → BankSeen → List ℕ → Type 0
-InputsRead (bad k) fault before held = Unit {0}
-InputsRead (good p steps) fault before held = GoodReads p steps fault before held
+-- what a text was made from
+abbrev pub ToldFinds : Told → Setup → BankSeen → Found → Type 0
+ToldFinds report u before found = Reports u u.steps before found
+ToldFinds verdict u before found = Judges u found.judged
+ToldFinds events u before found = Unit {0}
 
-abbrev pub RunReads : ℕ → Stop → List (List ℕ) → Fault → BankSeen → List ℕ → Type 0
-RunReads size stop contents fault before held = InputsRead (run_inputs size stop contents) fault before held
+abbrev pub GoodFinds : Told → Setup → Fault → BankSeen → Found → Type 0
+GoodFinds told u absent before found = ToldFinds told u before found
+GoodFinds told u (step k m) before found = Reports u (take (k - 1) u.steps) before found
+GoodFinds told u _ before found = Unit {0}
 
--- the module of a request, in a bank of so many modules
-abbrev pub IsModuleOf : ℕ → Option Request → ℕ → Type 0
-IsModuleOf count None m = ⊥
-IsModuleOf count (Some r) m = m ≡ r.place % count
+abbrev pub InputsFind : Told → Inputs → Fault → BankSeen → Found → Type 0
+InputsFind told (bad k) fault before found = Unit {0}
+InputsFind told (good u) fault before found = GoodFinds told u fault before found
 
--- what the next step stores, where it would be done
-abbrev pub NextStores : ℕ → Program → State → Option Step → ℕ → Type 0
-NextStores count program s None m = ⊥
-NextStores count program s (Some next) m = (turn program s next ≡ Done) × IsModuleOf count (stored_by s next) m
-
--- Step k, counted from 1, would be done and stores in module m of so many.
-abbrev pub StoresAt : ℕ → Program → State → List Step → ℕ → ℕ → Type 0
-StoresAt count program s steps k m = (1 ≤ k) × NextStores count program (run program s (take (k - 1) steps)) (slice_get steps (k - 1)) m
-
-abbrev pub StepStores : ℕ → Parts → List Step → ℕ → ℕ → Type 0
-StepStores count p steps k m = StoresAt count (program_of p) (start_of p) steps k m
-
--- the faults of the bank, in a bank of so many modules, that an image and its steps allow
-abbrev pub GoodAllows : ℕ → Parts → List Step → Fault → Type 0
-GoodAllows count p steps absent = Unit {0}
-GoodAllows count p steps (fetch k) = ⊥
-GoodAllows count p steps (fill m) = m < count
-GoodAllows count p steps (step k m) = StepStores count p steps k m
-GoodAllows count p steps (read m) = m < count
-GoodAllows count p steps (step_and_read k m n) = StepStores count p steps k m × (n < count)
+abbrev pub RunFinds : Told → ℕ → Stop → List (List ℕ) → Fault → BankSeen → Found → Type 0
+RunFinds told size stop contents fault before found = InputsFind told (run_inputs size stop contents) fault before found
 
 -- Where a file is at fault the bank isn't touched.
 abbrev pub InputsAllow : ℕ → Inputs → Fault → Type 0
 InputsAllow count (bad k) fault = fault ≡ absent
-InputsAllow count (good p steps) fault = GoodAllows count p steps fault
+InputsAllow count (good u) fault = Allows count u.config u.image u.steps fault
 
+-- the faults that the files allow with a bank of so many words and modules
 abbrev pub RunAllows : ℕ → ℕ → Stop → List (List ℕ) → Fault → Type 0
-RunAllows size count stop contents (fetch k) = IsFetched contents k
+RunAllows size count stop contents (fetch k) = IsFetched (fetches_of contents) k
 RunAllows size count stop contents absent = InputsAllow count (run_inputs size stop contents) absent
 RunAllows size count stop contents (fill m) = InputsAllow count (run_inputs size stop contents) (fill m)
 RunAllows size count stop contents (step k m) = InputsAllow count (run_inputs size stop contents) (step k m)
 RunAllows size count stop contents (read m) = InputsAllow count (run_inputs size stop contents) (read m)
 RunAllows size count stop contents (step_and_read k m n) = InputsAllow count (run_inputs size stop contents) (step_and_read k m n)
 
--- The bank's first words are the persistent words of the state after some steps, the others are as before.
-abbrev pub StandsAfter : Parts → List Step → BankSeen → BankSeen → Type 0
-StandsAfter p steps before after = after.told ≡ front_written (words_of_state p (state_after p steps)) before.told
-
--- Some first words of the image were stored, but not all.
-abbrev pub PartFilled : Parts → BankSeen → BankSeen → Type 0
-PartFilled p before after = (n : ℕ) × (n < length p.persistent) × (after.told ≡ front_written (take n p.persistent) before.told)
-
-abbrev pub GoodLeaves : Parts → List Step → Fault → BankSeen → BankSeen → Type 0
-GoodLeaves p steps absent before after = StandsAfter p steps before after
-GoodLeaves p steps (fetch k) before after = after ≡ before
-GoodLeaves p steps (fill m) before after = PartFilled p before after
-GoodLeaves p steps (step k m) before after = StandsAfter p (take (k - 1) steps) before after
-GoodLeaves p steps (read m) before after = StandsAfter p steps before after
-GoodLeaves p steps (step_and_read k m n) before after = StandsAfter p (take (k - 1) steps) before after
-
 abbrev pub InputsLeave : Inputs → Fault → BankSeen → BankSeen → Type 0
 InputsLeave (bad k) fault before after = after ≡ before
-InputsLeave (good p steps) fault before after = GoodLeaves p steps fault before after
+InputsLeave (good u) fault before after = Leaves u.config u.image u.steps fault before after
 
 -- the bank after the command
 abbrev pub RunLeaves : ℕ → Stop → List (List ℕ) → Fault → BankSeen → BankSeen → Type 0
 RunLeaves size stop contents fault before after = InputsLeave (run_inputs size stop contents) fault before after
 
--- What may stand where no memory was left: the bank as at entry, filled in part, or as after some number of the steps.
-abbrev pub MayLeaveGood : Parts → List Step → BankSeen → BankSeen → Type 0
-MayLeaveGood p steps before after = (after ≡ before) ⊎ (PartFilled p before after ⊎ ((n : ℕ) × (n ≤ length steps) × StandsAfter p (take n steps) before after))
-
-abbrev pub MayLeave : Inputs → BankSeen → BankSeen → Type 0
-MayLeave (bad k) before after = after ≡ before
-MayLeave (good p steps) before after = MayLeaveGood p steps before after
+-- what may stand where no memory was left
+abbrev pub InputsMayLeave : Inputs → BankSeen → BankSeen → Type 0
+InputsMayLeave (bad k) before after = after ≡ before
+InputsMayLeave (good u) before after = MayLeave u.config u.image u.steps before after

@@ -1,16 +1,10 @@
-ghost use Rattle.std.specs.Prelude.{◌≡◌, ◌≤◌, length};
 ghost use Rattle.strand_report.specs.FaultLines.{file_fault, input_fault, fill_fault, read_fault};
-ghost use Rattle.strand_report.specs.Report.{run_text};
-ghost use Rattle.strand_app.specs.Making.{Gives, status_of};
+ghost use Rattle.strand_app.specs.Making.{Gives};
 
 use crate::{Made, Status};
 use std::alloc::Global;
 use strand_base::OutOfMemory;
-use strand_report::{
-    RunView, StepFault, write_file_fault, write_fill_fault, write_input_fault, write_read_fault,
-    write_run,
-};
-use strand_rules::PlainMachine;
+use strand_report::{write_file_fault, write_fill_fault, write_input_fault, write_read_fault};
 
 /// The answer where file k could not be fetched.
 pub fn file_fault(alloc: Global, file: u32) -> Result<Made, OutOfMemory>
@@ -58,30 +52,4 @@ pub fn read_fault(alloc: Global, module: u32) -> Result<Made, OutOfMemory>
         status: Status::ModuleFault,
         text,
     })
-}
-
-/// The report of a run.
-pub fn report(
-    alloc: Global,
-    stop: u64,
-    machine: &PlainMachine,
-    held: &[u64],
-    fault: Option<StepFault>,
-) -> Result<Made, OutOfMemory>
-    ensures { Gives (status_of fault) (run_text stop machine.now.state.now.cores machine.now.state.now.trace held.now fault) result }
-{
-    let mut text = Vec::new(alloc);
-    let view = RunView {
-        stop,
-        cores: machine.cores(),
-        trace: machine.trace(),
-        held,
-        fault,
-    };
-    write_run(&view, &mut text)?;
-    let status = match fault {
-        Some(_) => Status::ModuleFault,
-        None => Status::Ok,
-    };
-    Ok(Made { status, text })
 }

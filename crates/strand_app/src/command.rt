@@ -1,6 +1,6 @@
 ghost use Rattle.std.specs.Prelude.{◌≡◌, map, string_bytes};
 ghost use Rattle.std.specs.Option.{option_map};
-ghost use Rattle.strand_app.specs.Command.{command_of};
+ghost use Rattle.strand_app.specs.Command.{one_file, three_files, four_files, command_of};
 ghost use Rattle.strand_app.specs.CommandView.{view};
 
 use strand_inputs::{Stop, read_stop};
@@ -16,13 +16,102 @@ pub enum Command<'a> {
     List {
         image: &'a str,
     },
-    /// `run MACHINE IMAGE SCHEDULE STOP`: the report of a run.
+    /// `run MACHINE IMAGE SCHEDULE STOP`, `judge MACHINE IMAGE SCHEDULE STOP CRASH` or
+    /// `trace MACHINE IMAGE SCHEDULE STOP`: steps a machine and tells something of it.
     Run {
-        machine: &'a str,
-        image: &'a str,
-        schedule: &'a str,
-        stop: Stop,
+        telling: Telling<'a>,
+        words: RunWords<'a>,
     },
+}
+
+/// What a command tells of a run.
+#[derive(Clone, Copy)]
+pub enum Telling<'a> {
+    /// Its report.
+    Report,
+    /// The verdict on a crash image.
+    Verdict { crash: &'a str },
+    /// Its events, and the edges of their graph.
+    Events,
+}
+
+/// The files of a run, and where it is cut off.
+#[derive(Clone, Copy)]
+pub struct RunWords<'a> {
+    pub machine: &'a str,
+    pub image: &'a str,
+    pub schedule: &'a str,
+    pub stop: Stop,
+}
+
+// A command of one file.
+fn one_file<'a>(word: &str, file: &'a str) -> Option<Command<'a>>
+    ensures { option_map view result ≡ one_file word.now file.now }
+{
+    if word == "asm" {
+        Some(Command::Asm { text: file })
+    } else if word == "list" {
+        Some(Command::List { image: file })
+    } else {
+        None
+    }
+}
+
+// A command of a machine file, an image and a schedule.
+fn three_files<'a>(
+    word: &str,
+    machine: &'a str,
+    image: &'a str,
+    schedule: &'a str,
+    stop: Stop,
+) -> Option<Command<'a>>
+    ensures { option_map view result ≡ three_files word.now machine.now image.now schedule.now stop }
+{
+    let words = RunWords {
+        machine,
+        image,
+        schedule,
+        stop,
+    };
+    if word == "run" {
+        Some(Command::Run {
+            telling: Telling::Report,
+            words,
+        })
+    } else if word == "trace" {
+        Some(Command::Run {
+            telling: Telling::Events,
+            words,
+        })
+    } else {
+        None
+    }
+}
+
+// A command of these and a crash image.
+fn four_files<'a>(
+    word: &str,
+    machine: &'a str,
+    image: &'a str,
+    schedule: &'a str,
+    stop: Stop,
+    crash: &'a str,
+) -> Option<Command<'a>>
+    ensures { option_map view result ≡ four_files word.now machine.now image.now schedule.now crash.now stop }
+{
+    if word == "judge" {
+        Some(Command::Run {
+            telling: Telling::Verdict { crash },
+            words: RunWords {
+                machine,
+                image,
+                schedule,
+                stop,
+            },
+        })
+    } else {
+        None
+    }
 }
 
 /// The command that the words are. It takes no memory.
@@ -30,20 +119,27 @@ pub fn read_command(words: &[String]) -> Option<Command<'_>>
     ensures { option_map view result ≡ command_of (map string_bytes words.now) }
 {
     match words {
-        [word, text] if word.as_str() == "asm" => Some(Command::Asm {
-            text: text.as_str(),
-        }),
-        [word, image] if word.as_str() == "list" => Some(Command::List {
-            image: image.as_str(),
-        }),
-        [word, machine, image, schedule, stop] if word.as_str() == "run" => {
+        [word, file] => one_file(word.as_str(), file.as_str()),
+        [word, machine, image, schedule, stop] => {
             let stop = read_stop(stop.as_str())?;
-            Some(Command::Run {
-                machine: machine.as_str(),
-                image: image.as_str(),
-                schedule: schedule.as_str(),
+            three_files(
+                word.as_str(),
+                machine.as_str(),
+                image.as_str(),
+                schedule.as_str(),
                 stop,
-            })
+            )
+        }
+        [word, machine, image, schedule, stop, crash] => {
+            let stop = read_stop(stop.as_str())?;
+            four_files(
+                word.as_str(),
+                machine.as_str(),
+                image.as_str(),
+                schedule.as_str(),
+                stop,
+                crash.as_str(),
+            )
         }
         _ => None,
     }

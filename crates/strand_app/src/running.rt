@@ -1,51 +1,53 @@
-ghost use Rattle.std.specs.Prelude.{◌≡◌, ◌≤◌, length, IfOk, OnErr};
-ghost use Rattle.strand_app.specs.Making.{MakesOnBank, steps_before};
-ghost use Rattle.strand_app.specs.RunAnswer.{MayLeaveGood};
-ghost use Rattle.strand_rules.specs.Bank.{Keeps};
+ghost use Rattle.std.specs.Prelude.{take, IfOk, OnErr};
+ghost use Rattle.strand_app.specs.CommandView.{told_by, names_in};
+ghost use Rattle.strand_app.specs.Making.{MakesOnBank};
+ghost use Rattle.strand_app.specs.Opening.{AreReady, setup_in};
+ghost use Rattle.strand_app.specs.Runs.{RunMakes, RunMayLeave};
+ghost use Rattle.strand_app.specs.World.{world};
+ghost use Rattle.strand_modules.specs.Bank.{Keeps};
+ghost use Rattle.strand_run.specs.Outcome.{MayLeave};
 
 use crate::Made;
-use crate::answers::{fill_fault, read_fault, report};
-use crate::stepping::make_steps;
+use crate::answers::{file_fault, input_fault};
+use crate::command::{RunWords, Telling};
+use crate::opening::{OpenFault, Opened, RunFiles, open_files};
+use crate::telling::tell;
 use std::alloc::Global;
-use strand_base::OutOfMemory;
-use strand_image::Image;
-use strand_inputs::Step;
-use strand_report::StepFault;
-use strand_rules::{AtModule, ModuleBank, PlainMachine};
-use strand_run::{ReadFault, read_words};
+use strand_base::{Files, OutOfMemory};
+use strand_modules::ModuleBank;
+use strand_run::run_image;
 
-/// Fills the bank with the image's persistent words, makes the steps, reads the bank and makes the
-/// report.
-pub fn run_on_bank(
+// Runs the image on the bank, and tells of the run.
+fn run_on_bank(
     alloc: Global,
-    image: &Image,
-    steps: &[Step],
+    telling: Telling<'_>,
+    files: &RunFiles,
     bank: &mut ModuleBank,
 ) -> Result<Made, OutOfMemory>
-    requires room { length image.now.persistent ≤ bank.old.size }
-    requires few { length steps.now ≤ 200000 }
-    ensures made { IfOk result (λ made. MakesOnBank image.now steps.now bank.old bank.new made.status made.text.items) }
-    ensures memory { OnErr result (Keeps bank.old bank.new × MayLeaveGood image.now steps.now bank.old bank.new) }
+    requires { AreReady (told_by telling) bank.old.size files.now }
+    ensures made { IfOk result (λ made. MakesOnBank (told_by telling.entry) (setup_in files.now) bank.old bank.new made.status made.text.items) }
+    ensures memory { OnErr result (Keeps bank.old bank.new × MayLeave files.now.config files.now.image (take files.now.stop files.now.schedule) bank.old bank.new) }
 {
-    let mut machine = PlainMachine::new(alloc, image, steps.len() as u64)?;
-    let count = image.persistent().len();
-    if let Err(AtModule { module }) = bank.fill(image.persistent()) {
-        return fill_fault(alloc, module);
-    }
-    let fault = make_steps(&mut machine, steps, bank);
-    match read_words(alloc, count, bank) {
-        Ok(held) => report(alloc, steps_made(fault, steps), &machine, &held, fault),
-        Err(ReadFault::Module { module }) => read_fault(alloc, module),
-        Err(ReadFault::OutOfMemory) => Err(OutOfMemory),
-    }
+    let steps = &files.schedule.steps()[..files.stop as usize];
+    let end = run_image(alloc, &files.config, &files.image, steps, bank)?;
+    tell(alloc, telling, files, end)
 }
 
-// How many steps were made.
-fn steps_made(fault: Option<StepFault>, steps: &[Step]) -> u64
-    ensures { result ≡ steps_before fault (length steps.now) }
+/// Opens the files of a run, makes its steps on the bank, and tells of it.
+pub fn run<F: Files>(
+    alloc: Global,
+    telling: Telling<'_>,
+    words: RunWords<'_>,
+    files: &mut F,
+    bank: &mut ModuleBank,
+) -> Result<Made, OutOfMemory>
+    ensures made { IfOk result (λ made. RunMakes (told_by telling.entry) (names_in telling.entry words.entry) words.entry.stop (world (F.seen files.old) bank.old) (world (F.seen files.new) bank.new) made.status made.text.items) }
+    ensures memory { OnErr result (RunMayLeave (names_in telling.entry words.entry) words.entry.stop (world (F.seen files.old) bank.old) (world (F.seen files.new) bank.new)) }
 {
-    match fault {
-        Some(fault) => fault.step.saturating_sub(1),
-        None => steps.len() as u64,
+    match open_files(alloc, telling, words, bank.words(), files) {
+        Ok(Opened::Bad { file }) => input_fault(alloc, file),
+        Ok(Opened::Good { files }) => run_on_bank(alloc, telling, &files, bank),
+        Err(OpenFault::Fetch { file }) => file_fault(alloc, file),
+        Err(OpenFault::OutOfMemory) => Err(OutOfMemory),
     }
 }

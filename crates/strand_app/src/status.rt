@@ -1,8 +1,8 @@
 ghost use Rattle.std.specs.Prelude.{◌≡◌};
 ghost use Rattle.strand_app.specs.StatusCode.{code_of};
 
-/// How a call ended (docs/program.md). Today's commands answer `Ok`, `Words`, `Input`, `FileFault`,
-/// `SinkFault`, `ModuleFault` and `Memory`.
+/// How a call ended (docs/program.md). `Limit` and `StopPast` are answered by no command yet: their causes are
+/// `Input`.
 #[derive(Clone, Copy, Debug, PartialEq, Eq)]
 pub enum Status {
     /// The command's text was put.

@@ -1,21 +1,21 @@
 ghost use Rattle.std.specs.Prelude.{◌≡◌, map, string_bytes, IfOk, OnErr};
 ghost use Rattle.std.specs.Prelude.{None, Some};
 ghost use Rattle.strand_report.specs.FaultLines.{words_fault};
-ghost use Rattle.strand_app.specs.Causes.{FileCause, ModuleCause, SinkCause, MemoryCause};
+ghost use Rattle.strand_app.specs.Causes.{FileCause, InputCause, ModuleCause, SinkCause, MemoryCause};
 ghost use Rattle.strand_app.specs.Command.{command_of};
-ghost use Rattle.strand_app.specs.Crash.{CommandTells, CommandHolds};
+ghost use Rattle.strand_app.specs.Headline.{CommandTells, CommandHolds, CommandRefutes, IsTold};
 ghost use Rattle.strand_app.specs.Ends.{Ends};
 ghost use Rattle.strand_app.specs.CommandView.{view};
-ghost use Rattle.strand_app.specs.Runs.{Runs, CommandMakes, CommandLeaves};
+ghost use Rattle.strand_app.specs.Runs.{Runs, CommandMakes, CommandMayLeave};
 ghost use Rattle.strand_app.specs.World.{world};
 
 use crate::command::{Command, read_command};
 use crate::converting::{convert_image, convert_text};
-use crate::run::run;
+use crate::running::run;
 use crate::{Made, Status};
 use std::alloc::Global;
 use strand_base::{Files, OutOfMemory, Sink, put_all};
-use strand_rules::ModuleBank;
+use strand_modules::ModuleBank;
 
 // Puts a text.
 fn put_text<K: Sink>(out: &mut K, status: Status, text: &[u8]) -> Status
@@ -50,8 +50,8 @@ pub fn strand_main<F: Files, K: Sink>(
     // The whole call: what is put, how it ends, and what the bank holds.
     ensures runs { Runs (command_of (map string_bytes words.now)) (world (F.seen files.old) bank.old) (world (F.seen files.new) bank.new) (K.seen out.old) (K.seen out.new) result }
 
-    // Where all went well the report is that of the visible run, and the bank holds the words that it tells.
-    ensures visible { result ≡ Status.Ok → CommandTells (command_of (map string_bytes words.now)) (world (F.seen files.old) bank.old) (world (F.seen files.new) bank.new) (K.seen out.old) (K.seen out.new) }
+    // Where a run was told whole, the text is that of the visible run, its graph and its judge, and the bank holds the words that it tells.
+    ensures visible { IsTold result → CommandTells (command_of (map string_bytes words.now)) (world (F.seen files.old) bank.old) (world (F.seen files.new) bank.new) (K.seen out.old) (K.seen out.new) result }
 
     // However the call ends, what its steps left in the bank is an image that persist order allows.
     ensures crash { CommandHolds (command_of (map string_bytes words.now)) (world (F.seen files.old) bank.old) (world (F.seen files.new) bank.new) result }
@@ -60,9 +60,13 @@ pub fn strand_main<F: Files, K: Sink>(
     ensures words { result ≡ Status.Words → command_of (map string_bytes words.now) ≡ None }
     ensures no_command { command_of (map string_bytes words.now) ≡ None → Ends Status.Words words_fault (K.seen out.old) (K.seen out.new) result }
 
+    // A judge's no comes only where no set that the order allows has the crash image.
+    ensures no { result ≡ Status.No → CommandRefutes (command_of (map string_bytes words.now)) (world (F.seen files.old) bank.old) (K.seen out.old) (K.seen out.new) }
+
     // Each fault has its cause.
+    ensures input { result ≡ Status.Input → InputCause (command_of (map string_bytes words.now)) (world (F.seen files.old) bank.old) (K.seen out.old) (K.seen out.new) }
     ensures file_fault { result ≡ Status.FileFault → FileCause (command_of (map string_bytes words.now)) (world (F.seen files.old) bank.old) (world (F.seen files.new) bank.new) (K.seen out.old) (K.seen out.new) }
-    ensures module_fault { result ≡ Status.ModuleFault → ModuleCause (world (F.seen files.old) bank.old) (world (F.seen files.new) bank.new) (K.seen out.old) (K.seen out.new) }
+    ensures module_fault { result ≡ Status.ModuleFault → ModuleCause (command_of (map string_bytes words.now)) (world (F.seen files.old) bank.old) (world (F.seen files.new) bank.new) (K.seen out.old) (K.seen out.new) }
     ensures sink_fault { result ≡ Status.SinkFault → SinkCause (command_of (map string_bytes words.now)) (world (F.seen files.old) bank.old) (world (F.seen files.new) bank.new) (K.seen out.old) (K.seen out.new) result }
     ensures memory { result ≡ Status.Memory → MemoryCause (command_of (map string_bytes words.now)) (K.seen out.old) (K.seen out.new) }
 {
@@ -77,17 +81,12 @@ fn make<F: Files>(
     bank: &mut ModuleBank,
 ) -> Result<Made, OutOfMemory>
     ensures made { IfOk result (λ made. CommandMakes (Some (view command.entry)) (world (F.seen files.old) bank.old) (world (F.seen files.new) bank.new) made.status made.text.items) }
-    ensures memory { OnErr result (CommandLeaves (view command.entry) (world (F.seen files.old) bank.old) (world (F.seen files.new) bank.new)) }
+    ensures memory { OnErr result (CommandMayLeave (view command.entry) (world (F.seen files.old) bank.old) (world (F.seen files.new) bank.new)) }
 {
     match command {
         Command::Asm { text } => convert_text(alloc, text, files),
         Command::List { image } => convert_image(alloc, image, files),
-        Command::Run {
-            machine,
-            image,
-            schedule,
-            stop,
-        } => run(alloc, machine, image, schedule, stop, files, bank),
+        Command::Run { telling, words } => run(alloc, telling, words, files, bank),
     }
 }
 

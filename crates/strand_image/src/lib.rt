@@ -1,5 +1,5 @@
 //! The image file of a program: entries, code words and data, with one spelling for each image.
-//! The format is in docs/image.md.
+//! The format is in docs/FORMATS.md.
 #![tactic(auto)]
 
 mod fault;

@@ -6,8 +6,8 @@ use Rattle.strand_events.specs.declared.event.Event.{Event}
 use Rattle.strand_events.specs.Trace.{is_persist, word_at, value_at, event_is}
 use Rattle.strand_events.specs.Order.{Set, image}
 use Rattle.strand_judge.specs.Judged.{Offers}
-use Rattle.strand_events.specs.Places.{address_of, place_of}
-use Rattle.strand_judge.specs.Words.{crash_of, LieIn}
+use Rattle.strand_events.specs.Places.{address_of, place_of, LieIn}
+use Rattle.strand_judge.specs.Words.{crash_of}
 use Rattle.strand_judge.specs.Forcing.{at_word, IsImage, is_lacking, LacksNone, LacksFirst}
 use Rattle.strand_judge.specs.Lacking.{Lacks, LacksNothing}
 use Rattle.strand_events.proofs.Within.{event_within}

@@ -6,3 +6,4 @@ pub mod Gathered
 pub mod Fewer
 pub mod Pictured
 pub mod Ruled
+pub mod Within

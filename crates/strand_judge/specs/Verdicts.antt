@@ -1,8 +1,9 @@
 -- What a verdict says.
-use Rattle.std.specs.Prelude.{◌≡◌, ℕ, ◌<◌, true, List, length}
+use Rattle.std.specs.Prelude.{◌≡◌, ℕ, ◌<◌, true, List, length, slice_index}
 use Rattle.strand_inputs.specs.declared.mode.Mode.{Mode}
 use Rattle.strand_base.specs.Counting.{count_below}
 use Rattle.strand_events.specs.declared.event.Event.{Event}
+use Rattle.strand_events.specs.Trace.{persists_of}
 use Rattle.strand_events.specs.Order.{Set, sets_word}
 use Rattle.strand_events.specs.Numbers.{numbers_of}
 use Rattle.strand_judge.specs.Judged.{Crash, Agrees, IsJudged, IsLeastJudged, IsLeastSettled}
@@ -42,3 +43,16 @@ SaysNo mode t crash (No word rank) = ((set : Set) → IsJudged mode t crash set 
 abbrev pub NamesWord : Mode → List Event → Crash → Verdict → Type 0
 NamesWord mode t crash (Yes list) = Unit {0}
 NamesWord mode t crash (No word rank) = IsRefuted mode t crash word rank
+
+-- what the judge says of a crash image
+pub record IsVerdict (mode : Mode) (t : List Event) (crash : Crash) (verdict : Verdict) : Type 0 where
+  pub yes : SaysYes mode t crash verdict
+  pub no : SaysNo mode t crash verdict
+  pub word : NamesWord mode t crash verdict
+
+-- a yes whose list has persists of the set alone, by their numbers
+pub record IsYesWithin (t : List Event) (set : Set) (verdict : Verdict) : Type 0 where
+  pub list : List ℕ
+  pub is : verdict ≡ Yes list
+  pub numbers : (k : ℕ) → k < length list → slice_index list k < length (persists_of t)
+  pub held : (k : ℕ) → k < length list → set (slice_index (persists_of t) (slice_index list k)) ≡ true

@@ -1,7 +1,5 @@
 -- The words of a crash image, by their places in its list.
-use Rattle.std.specs.Prelude.{◌≡◌, ℕ, ◌<◌, true, ◌&&◌, ◌==◌, nat_lt, List, length, slice_index}
-use Rattle.strand_events.specs.declared.event.Event.{Event}
-use Rattle.strand_events.specs.Trace.{is_persist, word_at, event_is}
+use Rattle.std.specs.Prelude.{ℕ, ◌&&◌, ◌==◌, nat_lt, List, length, slice_index}
 use Rattle.strand_events.specs.Places.{place_of, address_of}
 use Rattle.strand_judge.specs.Judged.{Crash}
 
@@ -12,7 +10,3 @@ crash_of initial found = record {
   initial = λ word. slice_index initial (place_of word);
   found = λ word. slice_index found (place_of word);
 }
-
--- each persist is to one of so many words
-abbrev pub LieIn : List Event → ℕ → Type 0
-LieIn t words = (p : ℕ) → event_is is_persist t p ≡ true → (word_at t p ≡ address_of (place_of (word_at t p))) × (place_of (word_at t p) < words)

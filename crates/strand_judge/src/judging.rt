@@ -3,10 +3,11 @@ ghost use Rattle.strand_events.specs.Trace.{persists_of};
 ghost use Rattle.strand_events.specs.Order.{held, is_joined};
 ghost use Rattle.strand_events.specs.Numbers.{numbers_of};
 ghost use Rattle.strand_judge.specs.Judged.{IsLeastSettled};
-ghost use Rattle.strand_judge.specs.Words.{crash_of, LieIn};
+ghost use Rattle.strand_events.specs.Places.{LieIn};
+ghost use Rattle.strand_judge.specs.Words.{crash_of};
 ghost use Rattle.strand_judge.specs.Marks.{Marks};
 ghost use Rattle.strand_judge.specs.Lacking.{Lacks, LacksNothing};
-ghost use Rattle.strand_judge.specs.Verdicts.{SaysYes, SaysNo, NamesWord};
+ghost use Rattle.strand_judge.specs.Verdicts.{SaysYes, SaysNo, NamesWord, IsVerdict};
 
 use crate::closing::close;
 use crate::images::{first_difference, first_lacking, image_of};
@@ -104,9 +105,7 @@ pub fn judge(
     requires joined { joined.now ≡ numbers_of graph.now.events (is_joined graph.now.events) }
     requires same { length initial.now ≡ length crash.now }
     requires within { LieIn graph.now.events (length crash.now) }
-    ensures yes { IfOk result (SaysYes graph.now.mode graph.now.events (crash_of initial.now crash.now)) }
-    ensures no { IfOk result (SaysNo graph.now.mode graph.now.events (crash_of initial.now crash.now)) }
-    ensures word { IfOk result (NamesWord graph.now.mode graph.now.events (crash_of initial.now crash.now)) }
+    ensures { IfOk result (IsVerdict graph.now.mode graph.now.events (crash_of initial.now crash.now)) }
 {
     let persists = persists_of(alloc, graph.events())?;
     let mut marks = mark_joined(alloc, graph.events(), &persists, joined.as_slice())?;

@@ -9,7 +9,7 @@ mod marking;
 mod verdict;
 
 pub use judging::judge;
-pub use laws::least_sets_are_judged;
+pub use laws::{least_sets_are_judged, verdicts_are_within_judged_sets};
 pub use verdict::Verdict;
 
 #[cfg(test)]

@@ -2,7 +2,7 @@ ghost use Rattle.std.specs.Prelude.{◌≡◌, ℕ, ◌<◌, ◌^◌, true, leng
 ghost use Rattle.strand_events.specs.Fits.{EventFits};
 ghost use Rattle.strand_events.specs.Order.{is_joined};
 ghost use Rattle.strand_events.specs.Numbers.{numbers_of};
-ghost use Rattle.strand_judge.specs.Words.{LieIn};
+ghost use Rattle.strand_events.specs.Places.{LieIn};
 
 use super::*;
 use crate::images::place_of;

@@ -5,14 +5,14 @@ use Rattle.std.specs.Option.{option_map}
 use Rattle.std.proofs.lemmas.Bool.{cases_eq, cases_lt, cases_Bool, and_parts, ltb-true}
 use Rattle.std.proofs.lemmas.Option.{slice_get_within, slice_get-map, slice_get-get_or}
 use Rattle.strand_inputs.specs.declared.mode.Mode.{Mode}
-use Rattle.strand_base.specs.Counting.{list_below}
-use Rattle.strand_base.proofs.Counting.{list_get, get_last, get_more, at_or_below}
+use Rattle.strand_base.specs.Counting.{count_below, list_below}
+use Rattle.strand_base.proofs.Counting.{count_mono, list_get, get_last, get_more, at_or_below}
 use Rattle.strand_events.specs.declared.event.Event.{Event}
 use Rattle.strand_order.specs.declared.edge.Edge.{Edge}
 use Rattle.std.proofs.Math.ListN.{get_or}
 use Rattle.strand_order.proofs.GraphSound.{edge_less}
 use Rattle.strand_order.specs.Graph.{is_edge, word_edge, core_edge}
-use Rattle.strand_order.specs.Edges.{edge_from, edges_to, edges_below, edges_of}
+use Rattle.strand_order.specs.Edges.{edge_from, edges_to, edges_below, edges_of, StandsBefore}
 
 none_some : {X : Type 0} (x : X) → None ≡ Some x → ⊥
 none_some x e = absurd cc
@@ -43,15 +43,16 @@ list_has (suc n) f i lt h = elim (cases_eq i n) [
 ]
 
 module _ (mode : Mode) (t : List Event) where
-  -- an edge to event j
-  record To (j : ℕ) (e : Edge) : Type 0 where
+  -- an edge to event j, at place m of those
+  record To (j m : ℕ) (e : Edge) : Type 0 where
     edge : is_edge mode t e.before e.after ≡ true
     to : e.after ≡ j
+    place : count_below e.before (λ i. is_edge mode t i j) ≡ m
 
-  listed_to : (j m : ℕ) (e : Edge) → slice_get (edges_to mode t j j) m ≡ Some e → To j e
+  listed_to : (j m : ℕ) (e : Edge) → slice_get (edges_to mode t j j) m ≡ Some e → To j m e
   listed_to j m e at = go (slice_get (list_below j (λ i. is_edge mode t i j)) m) refl (sym (slice_get-map (edge_from j) (list_below j (λ i. is_edge mode t i j)) m) ∙ at)
     where
-      go : (o : Option ℕ) → slice_get (list_below j (λ i. is_edge mode t i j)) m ≡ o → option_map (edge_from j) o ≡ Some e → To j e
+      go : (o : Option ℕ) → slice_get (list_below j (λ i. is_edge mode t i j)) m ≡ o → option_map (edge_from j) o ≡ Some e → To j m e
       go None is h = absurd (none_some e h)
       go (Some i) is h =
           let same : edge_from j i ≡ e = cc in
@@ -59,10 +60,11 @@ module _ (mode : Mode) (t : List Event) where
           record {
             edge = ap (λ (x : Edge). is_edge mode t x.before x.after) (sym same) ∙ found.1;
             to = ap (λ (x : Edge). x.after) (sym same);
+            place = ap (λ (x : Edge). count_below x.before (λ i. is_edge mode t i j)) (sym same) ∙ found.2;
           }
 
   -- where element m of the list up to event n stands: before the edges to event n, or among them
-  split_at : (n m : ℕ) (e : Edge) → slice_get (edges_below mode t (suc n)) m ≡ Some e → ((m < length (edges_below mode t n)) × (slice_get (edges_below mode t n) m ≡ Some e)) ⊎ ((length (edges_below mode t n) ≤ m) × To n e)
+  split_at : (n m : ℕ) (e : Edge) → slice_get (edges_below mode t (suc n)) m ≡ Some e → ((m < length (edges_below mode t n)) × (slice_get (edges_below mode t n) m ≡ Some e)) ⊎ ((length (edges_below mode t n) ≤ m) × To n (m - length (edges_below mode t n)) e)
   unfolding edges_below
   split_at n m e at = elim (cases_lt m (length (edges_below mode t n))) [
     | inl lt ↦ inl (lt, sym (get_front (edges_below mode t n) (edges_to mode t n n) m lt) ∙ at)
@@ -114,6 +116,26 @@ module _ (mode : Mode) (t : List Event) where
     | inr (far', here') ↦ elim (split_at n m e at) [
       | inl (lt, early) ↦ omega (arith, (listed_edge n m e early).1, here'.to)
       | inr (far, here) ↦ omega (arith, here.to, here'.to)
+    ]
+  ]
+
+  -- and a later element is another one: it leads to a later event, or to the same from a later one
+  pub listed_rising : (n m k : ℕ) (e f : Edge) → m < k → slice_get (edges_below mode t n) m ≡ Some e → slice_get (edges_below mode t n) k ≡ Some f → StandsBefore e f
+  listed_rising zero m k e f less at at' = absurd (none_listed m e at)
+  listed_rising (suc n) m k e f less at at' = elim (split_at n k f at') [
+    | inl (lt', early') ↦ elim (split_at n m e at) [
+      | inl (lt, early) ↦ listed_rising n m k e f less early early'
+      | inr (far, here) ↦ absurd (omega arith)
+    ]
+    | inr (far', here') ↦ elim (split_at n m e at) [
+      | inl (lt, early) ↦ inl (omega (arith, (listed_edge n m e early).1, here'.to))
+      | inr (far, here) ↦ inr (
+        here.to ∙ sym here'.to,
+        elim (cases_lt e.before f.before) [
+          | inl lt ↦ lt
+          | inr le ↦ absurd (omega (arith, here.place, here'.place, count_mono f.before e.before (λ i. is_edge mode t i n) le))
+        ],
+      )
     ]
   ]
 

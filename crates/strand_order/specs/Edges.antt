@@ -1,5 +1,5 @@
 -- The list of the edges, by the later event and then by the earlier.
-use Rattle.std.specs.Prelude.{ℕ, zero, suc, List, [], ◌++◌, map, length}
+use Rattle.std.specs.Prelude.{◌≡◌, ◌⊎◌, ◌<◌, ℕ, zero, suc, List, [], ◌++◌, map, length}
 use Rattle.strand_inputs.specs.declared.mode.Mode.{Mode}
 use Rattle.strand_base.specs.Counting.{list_below}
 use Rattle.strand_events.specs.declared.event.Event.{Event}
@@ -20,3 +20,7 @@ edges_below mode t (suc j) = edges_below mode t j ++ edges_to mode t j j
 
 abbrev pub edges_of : Mode → List Event → List Edge
 edges_of mode t = edges_below mode t (length t)
+
+-- by the later event, and then by the earlier
+abbrev pub StandsBefore : Edge → Edge → Type 0
+StandsBefore e f = (e.after < f.after) ⊎ ((e.after ≡ f.after) × (e.before < f.before))

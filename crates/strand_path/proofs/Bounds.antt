@@ -3,7 +3,7 @@ use Rattle.std.proofs.Common.{◌≡◌, ℕ, zero, suc, ◌+◌, ◌<◌, ◌�
 use Rattle.std.specs.Prelude.{slice_index, nat_lt, nat_le}
 use Rattle.std.proofs.lemmas.Bool.{cases_eq, cases_Bool, ltb-true}
 use Rattle.std.proofs.lemmas.Bool.Decides.{nat_tests}
-use Rattle.std.proofs.lemmas.Option.{get_or_from_slice_get}
+use Rattle.std.proofs.lemmas.Option.{get_or_from_slice_get, slice_get_within}
 use Rattle.strand_inputs.specs.declared.mode.Mode.{Mode}
 use Rattle.strand_base.proofs.Counting.{list_get, at_or_below}
 use Rattle.strand_events.specs.declared.event.Event.{Event}
@@ -66,6 +66,12 @@ module _ (mode : Mode) (t : List Event) where
       let at = list_has (length t) (event_is is_persist t) x (event_within is_persist t x is) is in
       let number : number_of t x ≡ at.0 = (list_get (length t) (event_is is_persist t) at.0 x at.1).2 in
       ap (slice_index (persists_of t)) number ∙ get_or_from_slice_get (persists_of t) at.0 x 0 at.1
+
+  pub number_within : (x : ℕ) → event_is is_persist t x ≡ true → number_of t x < length (persists_of t)
+  number_within x is =
+      let at = list_has (length t) (event_is is_persist t) x (event_within is_persist t x is) is in
+      let number : number_of t x ≡ at.0 = (list_get (length t) (event_is is_persist t) at.0 x at.1).2 in
+      omega (arith, number, slice_get_within (persists_of t) at.0 x at.1)
 
   on_persist : (x : ℕ) (xs : List ℕ) → event_is is_persist t x ≡ true → events_of t (numbers_on t (x ∷ xs)) ≡ x ∷ events_of t (numbers_on t xs)
   on_persist x xs is = rw is (ap (λ y. y ∷ events_of t (numbers_on t xs)) (number_again x is))

@@ -22,7 +22,7 @@ module _ (mode : Mode) (t : List Event) where
   chain_more (x ∷ []) p q c before is = (c.0, c.1, chain_more [] p q c.2 before is)
   chain_more (x ∷ y ∷ ys) p q c before is = (c.0, c.1, chain_more (y ∷ ys) p q c.2 before is)
 
-  chain_last : (front : List ℕ) (p : ℕ) → IsChain mode t (front ++ p ∷ []) → event_is is_persist t p ≡ true
+  pub chain_last : (front : List ℕ) (p : ℕ) → IsChain mode t (front ++ p ∷ []) → event_is is_persist t p ≡ true
   chain_last [] p c = c
   chain_last (x ∷ []) p c = c.2
   chain_last (x ∷ y ∷ ys) p c = chain_last (y ∷ ys) p c.2

@@ -6,3 +6,4 @@ pub mod Onto
 pub mod Picked
 pub mod Walked
 pub mod Levelled
+pub mod ChosenLaws

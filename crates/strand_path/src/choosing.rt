@@ -1,7 +1,6 @@
 ghost use Rattle.std.specs.Prelude.{IfOk};
-ghost use Rattle.strand_path.specs.Chains.{events_of};
 ghost use Rattle.strand_path.specs.Checked.{IsChecked};
-ghost use Rattle.strand_path.specs.Chosen.{IsChosen};
+ghost use Rattle.strand_path.specs.Chosen.{IsChosenChain};
 
 use crate::checking::greatest;
 use crate::levels::levels_of;
@@ -14,7 +13,7 @@ use strand_order::Graph;
 
 /// The chosen chain of a graph, with a route and levels that `check_path` accepts (docs/path.md).
 pub fn longest(alloc: Global, graph: &Graph) -> Result<Path, OutOfMemory>
-    ensures chosen { IfOk result (λ path. IsChosen graph.now.mode graph.now.events (events_of graph.now.events path.chain)) }
+    ensures chosen { IfOk result (λ path. IsChosenChain graph.now.mode graph.now.events path.chain) }
     ensures checked { IfOk result (IsChecked graph.now.mode graph.now.events) }
 {
     let levels = levels_of(alloc, graph)?;

@@ -3,6 +3,7 @@
 
 mod checking;
 mod choosing;
+mod laws;
 mod levels;
 mod path;
 mod picking;
@@ -11,6 +12,7 @@ mod ways;
 
 pub use checking::check_path;
 pub use choosing::longest;
+pub use laws::chosen_chains_are_longest;
 pub use path::Path;
 
 #[cfg(test)]

@@ -1,3 +1,5 @@
+pub mod Counted
+pub mod LineParts
 pub mod Marked
 pub mod Numbered
 pub mod Parts

@@ -1,14 +1,15 @@
 -- A loop over marks that appends the numbers of those that are set.
-use Rattle.std.proofs.Common.{◌≡◌, ℕ, zero, suc, ◌+◌, ◌<◌, ◌≤◌, Bool, true, false, List, [], ◌∷◌, ◌++◌, length, codes, decimal, refl, sym, ap, ◌∙◌, arith, append_assoc, add-one, inl, inr, subst}
+use Rattle.std.proofs.Common.{◌≡◌, ℕ, zero, suc, ◌+◌, ◌<◌, ◌≤◌, Bool, true, false, List, [], ◌∷◌, ◌++◌, length, decimal, refl, sym, ap, ◌∙◌, arith, append_assoc, add-one, inl, inr, subst}
 use Rattle.std.proofs.lemmas.Bool.{cases_Bool, cases_eq}
 use Rattle.std.proofs.lemmas.List.{flat_map_more}
 use Rattle.std.specs.List.{flat_map}
 use Rattle.strand_base.specs.Counting.{count_below, list_below}
 use Rattle.strand_base.specs.Puts.{AppendsFront}
-use Rattle.strand_base.proofs.Counting.{count_yes, count_no, list_length}
-use Rattle.strand_base.proofs.Fronts.{front_after, front_before, flat_of_map}
+use Rattle.strand_base.proofs.Counting.{list_length}
+use Rattle.strand_base.proofs.Fronts.{front_after, front_before}
 use Rattle.strand_events.specs.Order.{held}
-use Rattle.strand_report.specs.Durable.{durable_line, marked}
+use Rattle.strand_report.proofs.Counted.{Counted}
+use Rattle.strand_report.specs.Persists.{marked}
 
 -- the members below i, each with a space before it
 abbrev pub members_below : ℕ → List Bool → List ℕ
@@ -52,28 +53,5 @@ members_stop marks i old mid new lt e h front =
 pub members_all : (marks : List Bool) (n : ℕ) (old new : List ℕ) → n ≡ length marks → new ≡ old ++ members_below n marks → new ≡ old ++ flat_map (λ n. 32 ∷ decimal n) (marked marks)
 members_all marks n old new e h = rw (← e) h
 
--- the line in its parts
-pub durable_parts : (marks : List Bool) → durable_line marks
-    ≡ codes "durable" ++ ((32 ∷ decimal (length (marked marks))) ++ (codes ":" ++ (flat_map (λ n. 32 ∷ decimal n) (marked marks) ++ 10 ∷ [])))
-durable_parts marks =
-    let count = decimal (length (marked marks)) in
-    let members = flat_map (λ n. 32 ∷ decimal n) (marked marks) in
-    rw (flat_of_map (λ w. 32 ∷ w) decimal (marked marks))
-    (ap (λ (s : List ℕ). codes "durable" ++ (32 ∷ s)) (append_assoc (count ++ codes ":") members (10 ∷ []) ∙ append_assoc count (codes ":") (members ++ 10 ∷ [])))
-
--- how many numbers below i are marked, and at most i
-abbrev pub Counted : List Bool → ℕ → ℕ → Type 0
-Counted marks i count = (count ≡ count_below i (held marks)) × (count ≤ i)
-
-pub count_more : (marks : List Bool) (i count new : ℕ) → held marks i ≡ true → Counted marks i count → new ≡ count + 1 → Counted marks (i + 1) new
-count_more marks i count new e counted more =
-    let next : count_below (i + 1) (held marks) ≡ suc (count_below i (held marks)) = rw add-one (count_yes i (held marks) e) in
-    (omega (arith, more, counted.0, next), omega (arith, more, counted.1))
-
-pub count_same : (marks : List Bool) (i count new : ℕ) → held marks i ≡ false → Counted marks i count → new ≡ count → Counted marks (i + 1) new
-count_same marks i count new e counted same =
-    let next : count_below (i + 1) (held marks) ≡ count_below i (held marks) = rw add-one (count_no i (held marks) e) in
-    (omega (arith, same, counted.0, next), omega (arith, same, counted.1))
-
-pub count_all : (marks : List Bool) (n count : ℕ) → n ≡ length marks → Counted marks n count → count ≡ length (marked marks)
+pub count_all : (marks : List Bool) (n count : ℕ) → n ≡ length marks → Counted (held marks) n count → count ≡ length (marked marks)
 count_all marks n count e counted = counted.0 ∙ ap (λ (j : ℕ). count_below j (held marks)) e ∙ sym (list_length (length marks) (held marks))

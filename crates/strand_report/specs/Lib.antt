@@ -1,7 +1,9 @@
 pub mod Bubbles
-pub mod Durable
 pub mod FaultLines
 pub mod Numbered
 pub mod Outs
+pub mod Persists
 pub mod Report
+pub mod Trace
+pub mod Verdict
 pub mod Words

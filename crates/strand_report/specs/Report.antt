@@ -16,7 +16,7 @@ use Rattle.strand_exec.specs.Core.{Core}
 use Rattle.strand_exec.specs.Memory.{Memory}
 use Rattle.strand_report.specs.declared.bubbles.BubbleAt.{BubbleAt}
 use Rattle.strand_report.specs.Bubbles.{bubble_lines}
-use Rattle.strand_report.specs.Durable.{durable_line}
+use Rattle.strand_report.specs.Persists.{durable_line, path_line}
 use Rattle.strand_report.specs.FaultLines.{step_fault}
 use Rattle.strand_report.specs.Numbered.{numbered}
 use Rattle.strand_report.specs.Outs.{out_lines}
@@ -60,19 +60,10 @@ abbrev pub fault_lines : Option StepFault → List ℕ
 fault_lines None = []
 fault_lines (Some fault) = step_fault fault.«module» fault.step
 
--- the lines of a run's report, in their order
-abbrev pub run_text : ℕ → List Core → List Event → List ℕ → Option StepFault → List ℕ
-run_text stop cores trace held fault =
-    stop_line stop
-    ++ (numbered core_lines cores
-    ++ (out_lines trace
-    ++ (held_lines held
-    ++ fault_lines fault)))
-
--- the lines of a report with queues and strand buffers, in their order: what the cores did, what the steps came to and
--- what the cores see, what the modules hold, and where a module refused a store, that as the last line
-abbrev pub full_text : ℕ → List Core → List Event → List BubbleAt → Memory → List ℕ → List Bool → Option StepFault → List ℕ
-full_text stop cores trace bubbles memory held marks fault =
+-- the lines of a run's report, in their order: what the cores did, what the steps came to and what the cores see, what
+-- the modules hold, what is durable and the chosen chain, and where a module refused a store, that as the last line
+abbrev pub run_text : ℕ → List Core → List Event → List BubbleAt → Memory → List ℕ → List Bool → List ℕ → Option StepFault → List ℕ
+run_text stop cores trace bubbles memory held marks chain fault =
     (stop_line stop ++ (numbered core_lines cores ++ out_lines trace))
     ++ ((bubble_lines bubbles ++ visible_lines memory)
-    ++ (held_lines held ++ (durable_line marks ++ fault_lines fault)))
+    ++ (held_lines held ++ ((durable_line marks ++ path_line chain) ++ fault_lines fault)))

@@ -49,9 +49,7 @@ fn put_bubble(into: &mut Vec<u8>, bubble: BubbleAt) -> Result<(), OutOfMemory>
 }
 
 /// Appends `bubble K CAUSE` for each of these steps, in their order.
-///
-/// `OutOfMemory`: a front of the lines is appended.
-pub fn write_bubbles(bubbles: &[BubbleAt], into: &mut Vec<u8>) -> Result<(), OutOfMemory>
+pub(crate) fn put_bubbles(into: &mut Vec<u8>, bubbles: &[BubbleAt]) -> Result<(), OutOfMemory>
     ensures { Puts result (bubble_lines bubbles.now) into.old.items into.new.items }
 {
     for bubble in bubbles {

@@ -1,9 +1,9 @@
 ghost use Rattle.std.specs.Prelude.{◌≡◌, ◌∷◌, decimal, length};
 ghost use Rattle.std.specs.List.{flat_map};
 ghost use Rattle.strand_base.specs.Puts.{Puts};
-ghost use Rattle.strand_report.specs.Durable.{durable_line, marked};
+ghost use Rattle.strand_report.specs.Persists.{durable_line, marked};
 
-use itoa::Buffer;
+use crate::members::{put_count, put_member};
 use strand_base::{OutOfMemory, put};
 
 /// How many numbers are marked.
@@ -19,15 +19,6 @@ fn count_marked(marks: &[bool]) -> usize
     count
 }
 
-/// A number with a space before it.
-fn put_member(into: &mut Vec<u8>, member: usize) -> Result<(), OutOfMemory>
-    ensures { Puts result (32 ∷ decimal member) into.old.items into.new.items }
-{
-    let mut number = Buffer::new();
-    put(into, b" ")?;
-    put(into, number.format(member).as_bytes())
-}
-
 /// The numbers that are marked, ascending, each with a space before it.
 fn put_marked(into: &mut Vec<u8>, marks: &[bool]) -> Result<(), OutOfMemory>
     ensures { Puts result (flat_map (λ n. 32 ∷ decimal n) (marked marks.now)) into.old.items into.new.items }
@@ -41,14 +32,10 @@ fn put_marked(into: &mut Vec<u8>, marks: &[bool]) -> Result<(), OutOfMemory>
 }
 
 /// Appends `durable C:`, and a space and a number for each of the C persists that are marked, ascending.
-///
-/// `OutOfMemory`: a front of the line is appended.
-pub fn write_durable(marks: &[bool], into: &mut Vec<u8>) -> Result<(), OutOfMemory>
+pub(crate) fn put_durable(into: &mut Vec<u8>, marks: &[bool]) -> Result<(), OutOfMemory>
     ensures { Puts result (durable_line marks.now) into.old.items into.new.items }
 {
-    put(into, b"durable")?;
-    put_member(into, count_marked(marks))?;
-    put(into, b":")?;
+    put_count(into, b"durable", count_marked(marks))?;
     put_marked(into, marks)?;
     put(into, b"\n")
 }

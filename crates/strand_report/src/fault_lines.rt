@@ -1,8 +1,7 @@
 ghost use Rattle.std.specs.Prelude.{[], ◌∷◌, codes, decimal};
 ghost use Rattle.strand_base.specs.Puts.{Puts};
 ghost use Rattle.strand_base.specs.Text.{line_text};
-ghost use Rattle.strand_report.specs.FaultLines.{words_fault, file_fault, input_fault};
-ghost use Rattle.strand_report.specs.FaultLines.{fill_fault, read_fault, step_fault};
+ghost use Rattle.strand_report.specs.FaultLines.{file_fault, input_fault, fill_fault, read_fault, step_fault};
 
 use itoa::Buffer;
 use strand_base::{OutOfMemory, put_line};
@@ -47,16 +46,9 @@ fn put_module_fault(into: &mut Vec<u8>, module: u32, phase: &str) -> Result<(), 
     )
 }
 
-/// Appends `fault words`: the words are no command.
+/// Appends `fault file K`: the file, counted from 1, could not be fetched.
 ///
 /// `OutOfMemory`: a front of the line is appended; so it is with each of these lines.
-pub fn write_words_fault(into: &mut Vec<u8>) -> Result<(), OutOfMemory>
-    ensures { Puts result words_fault into.old.items into.new.items }
-{
-    put_line(into, b"fault", &["words".as_bytes()])
-}
-
-/// Appends `fault file K`: the file, counted from 1, could not be fetched.
 pub fn write_file_fault(file: u32, into: &mut Vec<u8>) -> Result<(), OutOfMemory>
     ensures { Puts result (file_fault file) into.old.items into.new.items }
 {

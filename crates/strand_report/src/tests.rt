@@ -1,10 +1,14 @@
 use crate::{
-    BubbleAt, RunView, StepFault, write_bubbles, write_durable, write_file_fault, write_fill_fault,
-    write_input_fault, write_read_fault, write_run, write_visible, write_words_fault,
+    BubbleAt, RunView, StepFault, write_file_fault, write_fill_fault, write_input_fault,
+    write_read_fault, write_run, write_trace, write_verdict,
 };
 use std::test::*;
+use strand_base::Numbers;
 use strand_events::{Event, Trace};
 use strand_exec::{CoreState, FlatMemory, Life, Trap};
+use strand_inputs::Mode;
+use strand_judge::Verdict;
+use strand_order::build;
 use strand_rules::Cause;
 
 fn at(pc: u64, life: Life) -> CoreState {
@@ -16,10 +20,43 @@ fn at(pc: u64, life: Life) -> CoreState {
 }
 
 #[test]
-fn texts_are_as_printed(rt: HostRuntime) -> Result<(), Fail> {
+fn a_report_is_as_printed(rt: HostRuntime) -> Result<(), Fail> {
     let mut first = at(0x1000_0010, Life::Running);
     first.regs[1] = 1;
     first.regs[2] = 0x4000_0000;
+    let trace = Trace::new(rt.alloc(), 0).ok().ok_or("memory")?;
+    let visible = FlatMemory::copy(rt.alloc(), &[0], &[0])
+        .ok()
+        .ok_or("memory")?;
+    let view = RunView {
+        stop: 4,
+        cores: &[first],
+        trace: &trace,
+        bubbles: &[],
+        visible: &visible,
+        held: &[0, 0],
+        durable: &[],
+        chain: &[],
+        fault: Some(StepFault { module: 0, step: 5 }),
+    };
+    let mut text = Vec::new(rt.alloc());
+    write_run(&view, &mut text)?;
+    assert_eq!(rt;
+        text.as_slice(),
+        b"stop 4\n\
+        core 0 pc 0000000010000010 running\n\
+        reg 0 x1 0000000000000001\n\
+        reg 0 x2 0000000040000000\n\
+        durable 0:\n\
+        path 0:\n\
+        fault module 0 step 5\n"
+            .as_slice()
+    );
+    Ok(())
+}
+
+#[test]
+fn every_line_of_a_report_is_as_printed(rt: HostRuntime) -> Result<(), Fail> {
     let mut halted = at(0x1000_0014, Life::Halted);
     halted.regs[9] = 0xfedc_ba98_7654_3210;
     let mut called = at(0x1000_0018, Life::Trapped(Trap::Call { number: 2 }));
@@ -38,8 +75,6 @@ fn texts_are_as_printed(rt: HostRuntime) -> Result<(), Fail> {
         at(0x1000_0010, Life::Trapped(Trap::Access { at: u64::MAX })),
         called,
     ];
-    let fault = Some(StepFault { module: 0, step: 5 });
-    let quiet = Trace::new(rt.alloc(), 0).ok().ok_or("memory")?;
     let mut trace = Trace::new(rt.alloc(), 3).ok().ok_or("memory")?;
     trace.push(Event::Out { core: 1, value: 42 });
     trace.push(Event::Barrier { core: 0 });
@@ -47,67 +82,6 @@ fn texts_are_as_printed(rt: HostRuntime) -> Result<(), Fail> {
         core: 0,
         value: u64::MAX,
     });
-    let views = [
-        (
-            RunView {
-                stop: 4,
-                cores: &[first],
-                trace: &quiet,
-                held: &[0, 0],
-                fault,
-            },
-            "stop 4\n\
-            core 0 pc 0000000010000010 running\n\
-            reg 0 x1 0000000000000001\n\
-            reg 0 x2 0000000040000000\n\
-            fault module 0 step 5\n",
-        ),
-        (
-            RunView {
-                stop: 200_000,
-                cores: &every,
-                trace: &trace,
-                held: &[1, 0, 0xab],
-                fault: None,
-            },
-            "stop 200000\n\
-            core 0 pc 0000000010000000 running\n\
-            core 1 pc 0000000010000014 halted\n\
-            reg 1 x9 fedcba9876543210\n\
-            core 2 pc 0000000010040000 trap fetch\n\
-            core 3 pc 0000000010000004 trap target 0000000010000006\n\
-            core 4 pc 0000000010000008 trap illegal\n\
-            core 5 pc 000000001000000c trap misaligned 0000000040000003\n\
-            core 6 pc 0000000010000010 trap access ffffffffffffffff\n\
-            core 7 pc 0000000010000018 trap call 0000000000000002\n\
-            reg 7 x10 000000000000000a\n\
-            reg 7 x31 000000000000001f\n\
-            out 1 000000000000002a\n\
-            out 0 ffffffffffffffff\n\
-            pm 0000000040000000 0000000000000001\n\
-            pm 0000000040000010 00000000000000ab\n",
-        ),
-    ];
-    for (view, expected) in &views {
-        let mut text = Vec::new(rt.alloc());
-        write_run(view, &mut text)?;
-        assert_eq!(rt; text.as_slice(), expected.as_bytes());
-    }
-    let mut faults = Vec::new(rt.alloc());
-    write_words_fault(&mut faults)?;
-    write_file_fault(2, &mut faults)?;
-    write_input_fault(3, &mut faults)?;
-    write_fill_fault(0, &mut faults)?;
-    write_read_fault(1, &mut faults)?;
-    assert_eq!(rt;
-        faults.as_slice(),
-        b"fault words\nfault file 2\nfault input 3\nfault module 0 fill\nfault module 1 read\n".as_slice()
-    );
-    Ok(())
-}
-
-#[test]
-fn lines_to_come_are_as_printed(rt: HostRuntime) -> Result<(), Fail> {
     let causes = [
         Cause::Ended,
         Cause::Join,
@@ -127,26 +101,134 @@ fn lines_to_come_are_as_printed(rt: HostRuntime) -> Result<(), Fail> {
             cause: *cause,
         })?;
     }
-    let mut text = Vec::new(rt.alloc());
-    write_bubbles(&bubbles, &mut text)?;
-    let memory = FlatMemory::copy(rt.alloc(), &[0, 7], &[u64::MAX, 0, 2])
+    let visible = FlatMemory::copy(rt.alloc(), &[0, 7], &[u64::MAX, 0, 2])
         .ok()
         .ok_or("memory")?;
-    write_visible(&memory, &mut text)?;
-    let mut marks = [false; 12];
-    write_durable(&marks, &mut text)?;
-    marks[0] = true;
-    marks[3] = true;
-    marks[11] = true;
-    write_durable(&marks, &mut text)?;
+    let mut durable = [false; 12];
+    durable[0] = true;
+    durable[3] = true;
+    durable[11] = true;
+    let view = RunView {
+        stop: 200_000,
+        cores: &every,
+        trace: &trace,
+        bubbles: &bubbles,
+        visible: &visible,
+        held: &[1, 0, 0xab],
+        durable: &durable,
+        chain: &[0, 4, 11],
+        fault: None,
+    };
+    let mut text = Vec::new(rt.alloc());
+    write_run(&view, &mut text)?;
     assert_eq!(rt;
         text.as_slice(),
-        b"bubble 1 ended\nbubble 4 join\nbubble 7 conflict\nbubble 10 queue\nbubble 13 noitem\n\
+        b"stop 200000\n\
+        core 0 pc 0000000010000000 running\n\
+        core 1 pc 0000000010000014 halted\n\
+        reg 1 x9 fedcba9876543210\n\
+        core 2 pc 0000000010040000 trap fetch\n\
+        core 3 pc 0000000010000004 trap target 0000000010000006\n\
+        core 4 pc 0000000010000008 trap illegal\n\
+        core 5 pc 000000001000000c trap misaligned 0000000040000003\n\
+        core 6 pc 0000000010000010 trap access ffffffffffffffff\n\
+        core 7 pc 0000000010000018 trap call 0000000000000002\n\
+        reg 7 x10 000000000000000a\n\
+        reg 7 x31 000000000000001f\n\
+        out 1 000000000000002a\n\
+        out 0 ffffffffffffffff\n\
+        bubble 1 ended\nbubble 4 join\nbubble 7 conflict\nbubble 10 queue\nbubble 13 noitem\n\
         bubble 16 noroom\nbubble 19 notempty\nbubble 22 noentry\nbubble 25 flightfull\n\
         bubble 28 olderwaits\n\
-        vis 0000000020000008 0000000000000007\nvis 0000000040000000 ffffffffffffffff\n\
+        vis 0000000020000008 0000000000000007\n\
+        vis 0000000040000000 ffffffffffffffff\n\
         vis 0000000040000010 0000000000000002\n\
-        durable 0:\ndurable 3: 0 3 11\n"
+        pm 0000000040000000 0000000000000001\n\
+        pm 0000000040000010 00000000000000ab\n\
+        durable 3: 0 3 11\n\
+        path 3: 0 4 11\n"
+            .as_slice()
+    );
+    Ok(())
+}
+
+#[test]
+fn faults_and_verdicts_are_as_printed(rt: HostRuntime) -> Result<(), Fail> {
+    let mut text = Vec::new(rt.alloc());
+    write_file_fault(2, &mut text)?;
+    write_input_fault(3, &mut text)?;
+    write_fill_fault(0, &mut text)?;
+    write_read_fault(1, &mut text)?;
+    let mut least = Numbers::new(rt.alloc());
+    write_verdict(&Verdict::Yes(Numbers::new(rt.alloc())), &mut text)?;
+    least.push(2)?;
+    write_verdict(&Verdict::Yes(least), &mut text)?;
+    let no = Verdict::No {
+        word: 0x4000_0000,
+        rank: 1,
+    };
+    write_verdict(&no, &mut text)?;
+    assert_eq!(rt;
+        text.as_slice(),
+        b"fault file 2\nfault input 3\nfault module 0 fill\nfault module 1 read\n\
+        yes 0:\nyes 1: 2\nno 0000000040000000 1\n"
+            .as_slice()
+    );
+    Ok(())
+}
+
+#[test]
+fn a_trace_is_as_printed(rt: HostRuntime) -> Result<(), Fail> {
+    let mut trace = Trace::new(rt.alloc(), 9).ok().ok_or("memory")?;
+    trace.push(Event::Store {
+        persist: true,
+        core: 0,
+        word: 0x4000_0000,
+        value: 1,
+    });
+    trace.push(Event::Barrier { core: 0 });
+    trace.push(Event::Store {
+        persist: true,
+        core: 0,
+        word: 0x4000_0008,
+        value: 1,
+    });
+    trace.push(Event::NewStrand { core: 0 });
+    trace.push(Event::Store {
+        persist: true,
+        core: 0,
+        word: 0x4000_0010,
+        value: 1,
+    });
+    trace.push(Event::Load {
+        core: 1,
+        word: 0x2000_0000,
+    });
+    trace.push(Event::Store {
+        persist: false,
+        core: 1,
+        word: 0x2000_0000,
+        value: 0xab,
+    });
+    trace.push(Event::Join { core: 0 });
+    trace.push(Event::Out { core: 1, value: 42 });
+    let graph = build(rt.alloc(), &trace, Mode::Strand)
+        .ok()
+        .ok_or("memory")?;
+    let mut text = Vec::new(rt.alloc());
+    write_trace(&graph, &mut text)?;
+    assert_eq!(rt;
+        text.as_slice(),
+        b"event 0 store 0 0000000040000000 0000000000000001 persist 0\n\
+        event 1 barrier 0\n\
+        event 2 store 0 0000000040000008 0000000000000001 persist 1\n\
+        event 3 newstrand 0\n\
+        event 4 store 0 0000000040000010 0000000000000001 persist 2\n\
+        event 5 load 1 0000000020000000\n\
+        event 6 store 1 0000000020000000 00000000000000ab\n\
+        event 7 join 0\n\
+        event 8 out 1 000000000000002a\n\
+        edge 0 1\nedge 1 2\nedge 5 6\nedge 0 7\nedge 1 7\nedge 2 7\nedge 4 7\n"
             .as_slice()
     );
     Ok(())

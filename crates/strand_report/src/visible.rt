@@ -6,9 +6,7 @@ use strand_base::OutOfMemory;
 use strand_exec::FlatMemory;
 
 /// Appends `vis H H`, address and value, for each word of the memory that is not 0, by rising address.
-///
-/// `OutOfMemory`: a front of the lines is appended.
-pub fn write_visible(memory: &FlatMemory, into: &mut Vec<u8>) -> Result<(), OutOfMemory>
+pub(crate) fn put_visible(into: &mut Vec<u8>, memory: &FlatMemory) -> Result<(), OutOfMemory>
     ensures { Puts result (visible_lines memory.now) into.old.items into.new.items }
 {
     put_words(into, "vis", 0x2000_0000, &memory.volatile)?;

@@ -1,33 +1,26 @@
 -- A step keeps what a machine keeps.
-use Rattle.std.proofs.Common.{◌≡◌, ℕ, zero, suc, ◌+◌, ◌<◌, ◌≤◌, Bool, true, false, List, [], ◌∷◌, ◌++◌, length, get_or, refl, sym, ap, ◌∙◌, arith, inl, inr, length-append, length-set}
-use Rattle.std.specs.Prelude.{nat_lt, Some, None, slice_get, slice_set}
-use Rattle.std.specs.List.{AllByRecursion}
+use Rattle.std.proofs.Common.{◌≡◌, ℕ, zero, suc, ◌+◌, ◌^◌, ◌<◌, ◌≤◌, Bool, true, false, List, [], ◌∷◌, ◌++◌, length, refl, sym, ap, ◌∙◌, arith, inl, inr, length-append, length-set}
+use Rattle.std.specs.Prelude.{nat_lt, Some, None, slice_set, slice_index, remove, if◌then◌else◌}
 use Rattle.std.specs.declared.option.Option.{Option}
-use Rattle.std.proofs.lemmas.Bool.{cases_Bool, leb-true}
-use Rattle.std.proofs.lemmas.Option.{none-some, same_Some, get_or_from_slice_get}
-use Rattle.strand_base.proofs.Counting.{count_agree, count_mono, list_length, list_get}
-use Rattle.strand_exec.specs.Arith.{merged}
-use Rattle.strand_exec.specs.Core.{Core, Extents}
-use Rattle.strand_exec.specs.Memory.{Memory, word_in, with_word}
-use Rattle.strand_exec.specs.Plan.{IsWord, plan_of, finished, asked, after}
-use Rattle.strand_exec.specs.declared.effect.Effect.{Effect}
-use Rattle.strand_exec.specs.declared.life.Life.TheVariants.{Running}
+use Rattle.std.proofs.lemmas.Bool.{cases_Bool, cases_eq, ltb-true, ltb-false, true≢false}
+use Rattle.std.proofs.lemmas.List.Edits.{length-remove, get_or-remove_below, get_or-remove_above}
+use Rattle.strand_exec.specs.Core.{Core}
+use Rattle.strand_exec.specs.Memory.{Memory, with_word}
+use Rattle.strand_exec.specs.Plan.{IsWord}
 use Rattle.strand_exec.specs.Plan as plan
 use Rattle.strand_exec.specs.declared.planned.Plan.{Plan}
 use Rattle.strand_exec.specs.declared.planned.Plan.TheVariants.{Plain, Load, Store, Barrier, NewStrand, Join, Out, Halt, Trap}
+use Rattle.strand_exec.proofs.StoresData.{stores_data}
 use Rattle.strand_events.specs.declared.event.Event.{Event}
-use Rattle.strand_events.specs.declared.event.Event.TheVariants as events
-use Rattle.strand_events.specs.Trace.{is_persist, event_is, word_of, value_of, word_at, value_at, persists_of, passes}
-use Rattle.strand_events.specs.Fits.{is_persistent}
+use Rattle.strand_events.specs.Trace.{is_persist, event_is}
+use Rattle.strand_events.specs.Order.{held}
 use Rattle.strand_events.proofs.Prefix.{event_is_kept}
-use Rattle.strand_rules.specs.Visible.{Program, Visible, event_of, memory_after, loaded, grown, acted, retire}
-use Rattle.strand_rules.specs.Cycle.{place_of, address_of}
-use Rattle.strand_rules.specs.Machine.{Machine, Runs, retired_in}
-use Rattle.strand_rules.specs.Kept.{IsPlaced, IsKept}
-
-all_more : (P : Event → Type 0) (t : List Event) (e : Event) → AllByRecursion P t → P e → AllByRecursion P (t ++ e ∷ [])
-all_more P [] e all p = (p, tt)
-all_more P (x ∷ t) e all p = (all.0, all_more P t e all.1 p)
+use Rattle.strand_rules.specs.Visible.{event_of, memory_after, grown}
+use Rattle.strand_rules.specs.Cycle.{State, unmarked, gone, send_after, write_after}
+use Rattle.strand_rules.specs.Machine.{Machine, made_to}
+use Rattle.strand_rules.specs.Kept.{IsKept}
+use Rattle.strand_rules.proofs.Placing.{event_placed}
+use Rattle.strand_rules.proofs.Marked.{held_unmarked, held_within, held_set, held_other}
 
 volatile_kept : (m : Memory) (word value : ℕ) → length (with_word m word value).volatile ≡ length m.volatile
 unfolding with_word
@@ -48,125 +41,161 @@ memory_kept m (Out value) = (refl, refl)
 memory_kept m Halt = (refl, refl)
 memory_kept m (Trap trap) = (refl, refl)
 
-persists_more : (t : List Event) (e : Event) → length (persists_of t) ≤ length (persists_of (t ++ e ∷ []))
-persists_more t e =
-    let old = list_length (length t) (event_is is_persist t) in
-    let new = list_length (length (t ++ e ∷ [])) (event_is is_persist (t ++ e ∷ [])) in
-    let same = count_agree (length t) (event_is is_persist (t ++ e ∷ [])) (event_is is_persist t) (λ i below. event_is_kept t e is_persist i below) in
-    let more = count_mono (length t) (length (t ++ e ∷ [])) (event_is is_persist (t ++ e ∷ [])) (omega (arith, length-append t (e ∷ []))) in
-    omega (arith, old, new, same, more)
-
--- a store's event is placed where the store's word is a data word
-store_placed : (x : Extents) (n word value : ℕ) (persist : Bool) → x.volatile ≤ 1048576 → IsWord x word → is_persistent word ≡ persist → IsPlaced x.persistent (events.Store persist n word value)
-store_placed x n word value false small at e = tt
-store_placed x n word value true small at e =
-    let high : 1073741824 ≤ word = leb-true _ _ e in
-    elim at.1 [
-      | inl low ↦ absurd (omega (arith, low.1, small, high))
-      | inr region ↦ (omega (arith, region.0, region.1), omega (arith, at.0, region.0))
-    ]
-
-event_placed : (x : Extents) (n : ℕ) (m : Memory) (p : Plan) (t : List Event) → x.volatile ≤ 1048576 → plan.IsPlaced x p
-    → AllByRecursion (IsPlaced x.persistent) t → AllByRecursion (IsPlaced x.persistent) (grown t (event_of n m p))
-event_placed x n m Plain t small placed all = all
-event_placed x n m (Load word) t small placed all = all_more (IsPlaced x.persistent) t _ all tt
-event_placed x n m (Store word mask bits) t small placed all = all_more (IsPlaced x.persistent) t _ all (store_placed x n word (merged (word_in m word) mask bits) (is_persistent word) small placed.0 refl)
-event_placed x n m Barrier t small placed all = all_more (IsPlaced x.persistent) t _ all tt
-event_placed x n m NewStrand t small placed all = all_more (IsPlaced x.persistent) t _ all tt
-event_placed x n m Join t small placed all = all_more (IsPlaced x.persistent) t _ all tt
-event_placed x n m (Out value) t small placed all = all_more (IsPlaced x.persistent) t _ all tt
-event_placed x n m Halt t small placed all = all
-event_placed x n m (Trap trap) t small placed all = all
-
 grown_length : (t : List Event) (o : Option Event) → length (grown t o) ≤ length t + 1
 grown_length t None = omega arith
 grown_length t (Some e) = omega (arith, length-append t (e ∷ []))
 
-grown_persists : (t : List Event) (o : Option Event) → length (persists_of t) ≤ length (persists_of (grown t o))
-grown_persists t None = omega arith
-grown_persists t (Some e) = persists_more t e
+-- an event that passes a test is there
+pub within : (test : Event → Bool) (t : List Event) (k : ℕ) → event_is test t k ≡ true → k < length t
+within test [] k is = absurd (true≢false (sym is))
+within test (x ∷ t) zero is = omega arith
+within test (x ∷ t) (suc k) is = let below = within test t k is in omega (arith, below)
 
--- after an instruction of core n
-pub kept_after : (m : Machine) (cores : List Core) (n : ℕ) (p : Plan) → length cores ≡ length m.state.now.cores → IsKept m → m.made < m.steps → plan.IsPlaced m.program.sizes p
-    → IsKept (record m {
-      state = record {
-        now = record { cores = cores; memory = memory_after m.state.now.memory p; trace = grown m.state.now.trace (event_of n m.state.now.memory p) };
-        retired = m.state.retired ++ n ∷ [];
-        durable = m.state.durable;
-      };
-      made = m.made + 1;
-    })
-kept_after m cores n p same kept room placed =
+grown_is : (t : List Event) (o : Option Event) (k : ℕ) → event_is is_persist t k ≡ true → event_is is_persist (grown t o) k ≡ true
+grown_is t None k is = is
+grown_is t (Some e) k is = event_is_kept t e is_persist k (within is_persist t k is) ∙ is
+
+pub marks_length : (t : List Event) (o : Option Event) (marks : List Bool) → length marks ≡ length t → length (unmarked marks o) ≡ length (grown t o)
+marks_length t None marks same = same
+marks_length t (Some e) marks same = omega (arith, same, length-append t (e ∷ []), length-append marks (false ∷ []))
+
+-- the state after an instruction of core n, from its parts
+abbrev pub acted_state : State → List Core → ℕ → Plan → State
+acted_state s cores n p = record s {
+  now = record { cores = cores; memory = memory_after s.now.memory p; trace = grown s.now.trace (event_of n s.now.memory p) };
+  retired = s.retired ++ n ∷ [];
+  buffered = unmarked s.buffered (event_of n s.now.memory p);
+  durable = unmarked s.durable (event_of n s.now.memory p);
+}
+
+pub kept_core : (m : Machine) (cores : List Core) (n : ℕ) (p : Plan) → length cores ≡ length m.state.now.cores → IsKept m → m.made < m.steps → plan.IsPlaced m.program.sizes p
+    → IsKept (made_to m (acted_state m.state cores n p))
+kept_core m cores n p same kept room placed =
     let memory = memory_kept m.state.now.memory p in
+    let event = event_of n m.state.now.memory p in
     record {
       cores = omega (arith, same, kept.cores);
       few_volatile = kept.few_volatile;
       volatile = memory.0 ∙ kept.volatile;
       persistent = memory.1 ∙ kept.persistent;
+      placed = event_placed m.program.sizes n m.state.now.memory p m.state.now.trace kept.few_volatile (stores_data m.program.sizes p placed) kept.placed;
       made_within = omega arith;
       few_steps = kept.few_steps;
-      few_events = omega (arith, grown_length m.state.now.trace (event_of n m.state.now.memory p), kept.few_events);
+      few_events = omega (arith, grown_length m.state.now.trace event, kept.few_events);
       few_retired = omega (arith, length-append m.state.retired (n ∷ []), kept.few_retired);
-      durable = omega (arith, grown_persists m.state.now.trace (event_of n m.state.now.memory p), kept.durable);
-      placed = event_placed m.program.sizes n m.state.now.memory p m.state.now.trace kept.few_volatile placed kept.placed;
+      dispatched = kept.dispatched ∙ sym same;
+      buffered = marks_length m.state.now.trace event m.state.buffered kept.buffered;
+      durable = marks_length m.state.now.trace event m.state.durable kept.durable;
+      few_sent = kept.few_sent;
+      waiting = λ k marked. grown_is m.state.now.trace event k (kept.waiting k (sym (held_unmarked m.state.buffered event k) ∙ marked));
+      sent = λ i lt. grown_is m.state.now.trace event (slice_index m.state.flight i) (kept.sent i lt);
     }
 
--- what is known of a persist of a machine
-pub record IsRequest (words k : ℕ) (t : List Event) (e : Event) : Type 0 where
-  pub persist : is_persist e ≡ true
-  pub word : word_at t k ≡ word_of e
-  pub value : value_at t k ≡ value_of e
-  pub inside : place_of (word_of e) < words
-  pub address : word_of e ≡ address_of (place_of (word_of e))
+-- a step that moves no core
+kept_moved : (m : Machine) (dispatched : List ℕ) (buffered : List Bool) (flight : List ℕ) (durable : List Bool) → IsKept m → m.made < m.steps
+    → length dispatched ≡ length m.state.dispatched → length buffered ≡ length m.state.buffered → length durable ≡ length m.state.durable → length flight ≤ m.config.flight
+    → ((p : ℕ) → held buffered p ≡ true → event_is is_persist m.state.now.trace p ≡ true)
+    → ((i : ℕ) → i < length flight → event_is is_persist m.state.now.trace (slice_index flight i) ≡ true)
+    → IsKept (made_to m (record m.state { dispatched = dispatched; buffered = buffered; flight = flight; durable = durable }))
+kept_moved m dispatched buffered flight durable kept room d b u few waiting sent = record {
+  cores = kept.cores;
+  few_volatile = kept.few_volatile;
+  volatile = kept.volatile;
+  persistent = kept.persistent;
+  placed = kept.placed;
+  made_within = omega arith;
+  few_steps = kept.few_steps;
+  few_events = omega (arith, kept.few_events);
+  few_retired = omega (arith, kept.few_retired);
+  dispatched = d ∙ kept.dispatched;
+  buffered = b ∙ kept.buffered;
+  durable = u ∙ kept.durable;
+  few_sent = few;
+  waiting = waiting;
+  sent = sent;
+}
 
-placed_event : (words : ℕ) (e : Event) → is_persist e ≡ true → IsPlaced words e → (place_of (word_of e) < words) × (word_of e ≡ address_of (place_of (word_of e)))
-placed_event words (events.Store true core word value) e placed = (placed.0, placed.1)
-placed_event words (events.Store false core word value) e placed = absurd cc
-placed_event words (events.Load core word) e placed = absurd cc
-placed_event words (events.Barrier core) e placed = absurd cc
-placed_event words (events.NewStrand core) e placed = absurd cc
-placed_event words (events.Join core) e placed = absurd cc
-placed_event words (events.Out core value) e placed = absurd cc
+-- a step that does nothing
+pub kept_bubble : (m : Machine) → IsKept m → m.made < m.steps → IsKept (made_to m m.state)
+kept_bubble m kept room = kept_moved m m.state.dispatched m.state.buffered m.state.flight m.state.durable kept room refl refl refl kept.few_sent kept.waiting kept.sent
 
-all_at : (P : Event → Type 0) (t : List Event) (k : ℕ) (e : Event) → AllByRecursion P t → slice_get t k ≡ Some e → P e
-all_at P [] k e all at = absurd (none-some e at)
-all_at P (x ∷ t) zero e all at = let same = same_Some x e at in rw (← same) all.0
-all_at P (x ∷ t) (suc k) e all at = all_at P t k e all.1 at
+kept_marked : (s : State) (t : List Event) (k : ℕ) (b : Bool) → k < length s.buffered → (b ≡ true → event_is is_persist t k ≡ true) → ((p : ℕ) → held s.buffered p ≡ true → event_is is_persist t p ≡ true)
+    → (p : ℕ) → held (slice_set s.buffered k b) p ≡ true → event_is is_persist t p ≡ true
+kept_marked s t k b lt is waiting p marked = elim (cases_eq p k) [
+  | inl same ↦ rw same (is (sym (held_set s.buffered k b lt) ∙ ap (held (slice_set s.buffered k b)) (sym same) ∙ marked))
+  | inr other ↦ waiting p (sym (held_other s.buffered k b p other) ∙ marked)
+]
 
-pub request_known : (words : ℕ) (t : List Event) (p k : ℕ) (e : Event) → AllByRecursion (IsPlaced words) t → slice_get (persists_of t) p ≡ Some k → slice_get t k ≡ Some e → IsRequest words k t e
-request_known words t p k e all found at =
-    let number = list_get (length t) (event_is is_persist t) p k found in
-    let persist : is_persist e ≡ true = sym (ap (passes is_persist) at) ∙ number.1 in
-    let known = placed_event words e persist (all_at (IsPlaced words) t k e all at) in
-    record {
-      persist = persist;
-      word = rw at refl;
-      value = rw at refl;
-      inside = known.0;
-      address = known.1;
-    }
+-- core n dispatched its item k
+pub kept_item : (m : Machine) (n k : ℕ) (b : Bool) → IsKept m → m.made < m.steps → k < length m.state.now.trace → event_is is_persist m.state.now.trace k ≡ b
+    → IsKept (made_to m (record m.state { dispatched = slice_set m.state.dispatched n (gone m.state n + 1); buffered = if b then slice_set m.state.buffered k true else m.state.buffered }))
+kept_item m n k true kept room lt is =
+    kept_moved m _ _ m.state.flight m.state.durable kept room (length-set _ _ _) (length-set _ _ _) refl kept.few_sent
+    (kept_marked m.state m.state.now.trace k true (omega (arith, kept.buffered)) (λ e. is) kept.waiting) kept.sent
+kept_item m n k false kept room lt is =
+    kept_moved m _ m.state.buffered m.state.flight m.state.durable kept room (length-set _ _ _) refl refl kept.few_sent kept.waiting kept.sent
 
--- what a core that runs retires
-pub retire_running : (p : Program) (v : Visible) (n : ℕ) (core : Core) → slice_get v.cores n ≡ Some core → core.life ≡ Running
-    → retire p v n ≡ acted p v n core (plan_of core p.code p.sizes)
-unfolding retire
-retire_running p v n core there running = rw (there, running) refl
+sent_more : (t : List Event) (flight : List ℕ) (p : ℕ) → event_is is_persist t p ≡ true → ((i : ℕ) → i < length flight → event_is is_persist t (slice_index flight i) ≡ true)
+    → (i : ℕ) → i < length (flight ++ p ∷ []) → event_is is_persist t (slice_index (flight ++ p ∷ []) i) ≡ true
+sent_more t [] p is sent zero lt = is
+sent_more t [] p is sent (suc i) lt = absurd (omega arith)
+sent_more t (x ∷ flight) p is sent zero lt = sent zero (omega arith)
+sent_more t (x ∷ flight) p is sent (suc i) lt = sent_more t flight p is (λ k below. sent (suc k) (omega arith)) i (omega arith)
 
--- the machine after core n retired its instruction, from the parts that changed
-pub retired_machine : (m : Machine) (n : ℕ) (effect : Effect) (p : Plan) (core : Core) → Runs m n effect → p ≡ asked effect → core ≡ get_or m.state.now.cores n core
-    → record m {
-      state = record {
-        now = record {
-          cores = slice_set m.state.now.cores n (after core (loaded m.state.now.memory p) effect);
-          memory = memory_after m.state.now.memory p;
-          trace = grown m.state.now.trace (event_of n m.state.now.memory p);
-        };
-        retired = m.state.retired ++ n ∷ [];
-        durable = m.state.durable;
-      };
-      made = m.made + 1;
-    } ≡ retired_in m n
-unfolding plan_of finished
-retired_machine m n effect p core runs plans found =
-    let same : core ≡ runs.core = found ∙ get_or_from_slice_get m.state.now.cores n runs.core core runs.there in
-    rw (retire_running m.program m.state.now n runs.core runs.there runs.running, same, plans, runs.effect_is) refl
+-- persist p was sent
+pub kept_send : (m : Machine) (p : ℕ) → IsKept m → m.made < m.steps → held m.state.buffered p ≡ true → length m.state.flight < m.config.flight
+    → IsKept (made_to m (send_after m.state (Some p)))
+kept_send m p kept room marked few =
+    kept_moved m m.state.dispatched _ _ m.state.durable kept room refl (length-set _ _ _) refl (omega (arith, length-append m.state.flight (p ∷ [])))
+    (kept_marked m.state m.state.now.trace p false (held_within m.state.buffered p marked) (λ e. absurd (true≢false (sym e))) kept.waiting)
+    (sent_more m.state.now.trace m.state.flight p (kept.waiting p marked) kept.sent)
+
+sent_less : (t : List Event) (flight : List ℕ) (j : ℕ) → j < length flight → ((i : ℕ) → i < length flight → event_is is_persist t (slice_index flight i) ≡ true)
+    → (i : ℕ) → i < length (remove flight j) → event_is is_persist t (slice_index (remove flight j) i) ≡ true
+sent_less t flight j lt sent i below =
+    let fewer = length-remove flight j lt in
+    elim (cases_Bool (nat_lt i j)) [
+      | inl yes_ ↦ rw (get_or-remove_below flight j 0 i (ltb-true i j yes_) lt) (sent i (omega (arith, fewer)))
+      | inr no_ ↦ rw (get_or-remove_above flight j 0 i (ltb-false i j no_) lt) (sent (i + 1) (omega (arith, fewer)))
+    ]
+
+-- persist p, at place j of those in flight, was written
+pub kept_write : (m : Machine) (j p : ℕ) → IsKept m → m.made < m.steps → j < length m.state.flight
+    → IsKept (made_to m (write_after m.state j (Some p)))
+kept_write m j p kept room lt =
+    kept_moved m m.state.dispatched m.state.buffered _ _ kept room refl refl (length-set _ _ _) (omega (arith, length-remove m.state.flight j lt, kept.few_sent))
+    kept.waiting (sent_less m.state.now.trace m.state.flight j lt kept.sent)
+
+-- before the first step
+pub record IsStart (m : Machine) : Type 0 where
+  pub cores : length m.state.now.cores ≤ 4
+  pub few_volatile : m.program.sizes.volatile ≤ 1048576
+  pub volatile : length m.state.now.memory.volatile ≡ m.program.sizes.volatile
+  pub persistent : length m.state.now.memory.persistent ≡ m.program.sizes.persistent
+  pub few_steps : m.steps < 2 ^ 32
+  pub made : m.made ≡ 0
+  pub trace : m.state.now.trace ≡ []
+  pub retired : m.state.retired ≡ []
+  pub dispatched : length m.state.dispatched ≡ length m.state.now.cores
+  pub buffered : m.state.buffered ≡ []
+  pub flight : m.state.flight ≡ []
+  pub durable : m.state.durable ≡ []
+
+pub kept_start : (m : Machine) → IsStart m → IsKept m
+kept_start m s = record {
+  cores = s.cores;
+  few_volatile = s.few_volatile;
+  volatile = s.volatile;
+  persistent = s.persistent;
+  placed = rw s.trace (λ p is. absurd (true≢false (sym is)));
+  made_within = omega (arith, s.made);
+  few_steps = s.few_steps;
+  few_events = rw s.trace (omega arith);
+  few_retired = rw s.retired (omega arith);
+  dispatched = s.dispatched;
+  buffered = rw (s.buffered, s.trace) refl;
+  durable = rw (s.durable, s.trace) refl;
+  few_sent = rw s.flight (omega arith);
+  waiting = λ p marked. absurd (true≢false (sym marked ∙ ap (λ marks. held marks p) s.buffered));
+  sent = λ i lt. absurd (omega (arith, ap length s.flight));
+}

@@ -1,25 +1,56 @@
--- What a machine keeps: the room it took, its regions' sizes, and that its persists lie in the persistent region.
-use Rattle.std.specs.Prelude.{◌≡◌, ℕ, ◌^◌, ◌<◌, ◌≤◌, true, length}
-use Rattle.std.specs.List.{AllByRecursion}
-use Rattle.strand_events.specs.declared.event.Event.{Event}
-use Rattle.strand_events.specs.declared.event.Event.TheVariants.{Store}
-use Rattle.strand_events.specs.Trace.{persists_of}
-use Rattle.strand_rules.specs.Cycle.{place_of, address_of}
-use Rattle.strand_rules.specs.Machine.{Machine}
+-- What a machine keeps: the room it took, its regions' sizes, and what its marks and requests name.
+use Rattle.std.specs.Prelude.{◌≡◌, ℕ, ◌^◌, ◌<◌, ◌≤◌, true, length, slice_index, vec_capacity}
+use Rattle.strand_events.specs.Trace.{is_persist, event_is}
+use Rattle.strand_events.specs.Order.{held}
+use Rattle.strand_events.specs.Places.{LieIn}
+use Rattle.strand_rules.specs.declared.plain_machine.PlainMachine.TheInside.{Inside}
+use Rattle.strand_rules.specs.Cycle.{IsReached}
+use Rattle.strand_rules.specs.Machine.{Machine, durable_persists}
 
--- a persist's word is one of so many persistent words
-abbrev pub IsPlaced : ℕ → Event → Type 0
-IsPlaced words (Store true core word value) = (place_of word < words) × (word ≡ address_of (place_of word))
-IsPlaced words _ = Unit {0}
-
+-- what a step needs of a machine, and keeps
 pub record IsKept (m : Machine) : Type 0 where
   pub cores : length m.state.now.cores ≤ 4
   pub few_volatile : m.program.sizes.volatile ≤ 1048576
   pub volatile : length m.state.now.memory.volatile ≡ m.program.sizes.volatile
   pub persistent : length m.state.now.memory.persistent ≡ m.program.sizes.persistent
+  pub placed : LieIn m.state.now.trace m.program.sizes.persistent
   pub made_within : m.made ≤ m.steps
   pub few_steps : m.steps < 2 ^ 32
   pub few_events : length m.state.now.trace ≤ m.made
   pub few_retired : length m.state.retired ≤ m.made
-  pub durable : m.state.durable ≤ length (persists_of m.state.now.trace)
-  pub placed : AllByRecursion (IsPlaced m.program.sizes.persistent) m.state.now.trace
+  pub dispatched : length m.state.dispatched ≡ length m.state.now.cores
+  pub buffered : length m.state.buffered ≡ length m.state.now.trace
+  pub durable : length m.state.durable ≡ length m.state.now.trace
+  pub few_sent : length m.state.flight ≤ m.config.flight
+  -- buffered events and those in flight are persists
+  pub waiting : (p : ℕ) → held m.state.buffered p ≡ true → event_is is_persist m.state.now.trace p ≡ true
+  pub sent : (i : ℕ) → i < length m.state.flight → event_is is_persist m.state.now.trace (slice_index m.state.flight i) ≡ true
+
+-- the machine of the fields
+abbrev pub seen : Inside → Machine
+seen m = record {
+  config = m.config;
+  program = record { code = m.code; sizes = m.sizes };
+  state = record {
+    now = record { cores = m.cores.items; memory = m.memory; trace = m.trace.events };
+    retired = m.retired.items;
+    dispatched = m.dispatched.items;
+    buffered = m.buffered.items;
+    flight = m.flight.items;
+    durable = m.durable.items;
+  };
+  made = m.made;
+  steps = m.steps;
+}
+
+-- A run reaches the machine's state. The machine has room for all its steps, and marks each persist as durable or not.
+pub record IsHeld (m : Inside) : Type 0 where
+  pub kept : IsKept (seen m)
+  pub reached : IsReached (seen m).config (seen m).program (seen m).state
+  pub persisted : m.persisted.items ≡ durable_persists (seen m).state
+  pub room : m.trace.room ≡ m.steps
+  pub retired_room : m.steps ≤ vec_capacity m.retired
+  pub buffered_room : m.steps ≤ vec_capacity m.buffered
+  pub durable_room : m.steps ≤ vec_capacity m.durable
+  pub persisted_room : m.steps ≤ vec_capacity m.persisted
+  pub flight_room : m.config.flight ≤ vec_capacity m.flight

@@ -1,6 +1,8 @@
-pub mod Bank
-pub mod RamModuleSeen
 pub mod Visible
+pub mod Images
 pub mod Cycle
 pub mod Machine
+pub mod Run
+pub mod Looking
 pub mod Kept
+pub mod Parts

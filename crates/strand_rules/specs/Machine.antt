@@ -1,38 +1,31 @@
--- The plain machine as contracts see it, and what a step leaves of it and of the bank.
-use Rattle.std.specs.Prelude.{◌≡◌, ℕ, ◌+◌, List, [], ◌∷◌, ◌++◌, length, map, slice_get, Some, None, Ok, Err}
+-- The machine as contracts see it, and what a step leaves of it and of the bank.
+use Rattle.std.specs.Prelude.{◌≡◌, ℕ, ◌+◌, Bool, List, length, map, slice_get, Some, None, Ok, Err}
 use Rattle.std.specs.declared.option.Option.{Option}
 use Rattle.strand_image.specs.Parts.{Parts}
+use Rattle.strand_inputs.specs.Settings.{Settings}
 use Rattle.strand_inputs.specs.declared.step.Step.{Step}
 use Rattle.strand_inputs.specs.declared.step.Step.TheVariants.{Core, Dispatch, Send, Write}
 use Rattle.strand_exec.specs.Core as cores
-use Rattle.strand_exec.specs.Core.{Extents, fresh}
-use Rattle.strand_events.specs.declared.event.Event.{Event}
-use Rattle.strand_exec.specs.Memory.{Memory}
+use Rattle.strand_exec.specs.Core.{fresh}
 use Rattle.strand_exec.specs.Plan.{effect_of}
 use Rattle.strand_exec.specs.Effects.{HasRegister, IsAligned}
 use Rattle.strand_exec.specs.declared.effect.Effect.{Effect}
 use Rattle.strand_exec.specs.declared.life.Life.TheVariants.{Running}
+use Rattle.strand_events.specs.Trace.{persists_of}
 use Rattle.strand_rules.specs.declared.turn.Turn.{Turn}
 use Rattle.strand_rules.specs.declared.turn.Turn.TheVariants.{Done, Bubble, Fault}
-use Rattle.strand_rules.specs.Bank.{BankSeen, Stores, store_refused, front_written}
-use Rattle.strand_rules.specs.Visible.{Program, retire}
-use Rattle.strand_rules.specs.Cycle.{State, Request, turn, after, waiting_at, request_of, start_at, persistent_image, durable_set}
+use Rattle.strand_modules.specs.Bank.{BankSeen, Stores, store_refused, front_written}
+use Rattle.strand_rules.specs.Images.{persistent_image}
+use Rattle.strand_rules.specs.Cycle.{Request, State, turn, after, request_of, start_at, durable_set}
+use Rattle.strand_rules.specs.Visible.{Program}
 
--- a machine's program and state, how many steps it made, and for how many it has room
+-- a machine's settings, program and state, how many steps it made, and for how many it has room
 pub record Machine : Type 0 where
+  pub config : Settings
   pub program : Program
   pub state : State
   pub made : ℕ
   pub steps : ℕ
-
--- the machine of its parts
-abbrev pub machine_of : List ℕ → Extents → List cores.Core → Memory → List Event → List ℕ → ℕ → ℕ → ℕ → Machine
-machine_of code sizes cores memory trace retired durable made steps = record {
-  program = record { code = code; sizes = sizes };
-  state = record { now = record { cores = cores; memory = memory; trace = trace }; retired = retired; durable = durable };
-  made = made;
-  steps = steps;
-}
 
 -- the program of an image
 abbrev pub program_of : Parts → Program
@@ -43,12 +36,12 @@ abbrev pub start_of : Parts → State
 start_of p = start_at (map fresh p.entries) (record { volatile = p.volatile; persistent = p.persistent })
 
 -- the machine of an image before its first step, with room for so many
-abbrev pub machine_at : Parts → ℕ → Machine
-machine_at p steps = record { program = program_of p; state = start_of p; made = 0; steps = steps }
+abbrev pub machine_at : Settings → Parts → ℕ → Machine
+machine_at g p steps = record { config = g; program = program_of p; state = start_of p; made = 0; steps = steps }
 
 -- the machine after a step that was done or a bubble
 abbrev pub stepped : Machine → Step → Machine
-stepped m step = record m { state = after m.program m.state step; made = m.made + 1 }
+stepped m step = record m { state = after m.config m.program m.state step; made = m.made + 1 }
 
 -- what a step that is done stores in the bank
 abbrev pub stored_for : State → Option ℕ → Option Request
@@ -56,7 +49,7 @@ stored_for s None = None
 stored_for s (Some k) = Some (request_of s k)
 
 abbrev pub stored_by : State → Step → Option Request
-stored_by s (Write j) = stored_for s (waiting_at s j)
+stored_by s (Write j) = stored_for s (slice_get s.flight j)
 stored_by s (Core n) = None
 stored_by s (Dispatch n) = None
 stored_by s (Send n b j) = None
@@ -73,9 +66,21 @@ StoresErr (Some r) old new m = Stores {T = Unit {0}} store_refused old new r.pla
 
 -- What a step leaves. A fault comes only at a step that would have been done, where the bank refused its store.
 abbrev pub Steps : Machine → Machine → BankSeen → BankSeen → Step → Turn → Type 0
-Steps old new bank bank' step (Fault m) = (turn old.program old.state step ≡ Done) × (new ≡ old) × StoresErr (stored_by old.state step) bank bank' m
-Steps old new bank bank' step (Bubble cause) = (turn old.program old.state step ≡ Bubble cause) × (new ≡ stepped old step) × (bank' ≡ bank)
-Steps old new bank bank' step Done = (turn old.program old.state step ≡ Done) × (new ≡ stepped old step) × StoresOk (stored_by old.state step) bank bank'
+Steps old new bank bank' step (Fault m) = (turn old.config old.program old.state step ≡ Done) × (new ≡ old) × StoresErr (stored_by old.state step) bank bank' m
+Steps old new bank bank' step (Bubble cause) = (turn old.config old.program old.state step ≡ Bubble cause) × (new ≡ stepped old step) × (bank' ≡ bank)
+Steps old new bank bank' step Done = (turn old.config old.program old.state step ≡ Done) × (new ≡ stepped old step) × StoresOk (stored_by old.state step) bank bank'
+
+-- A step changes neither the settings, the program, the room and the number of cores, nor the bank's size.
+pub record SameSetup (old new : Machine) (bank bank' : BankSeen) : Type 0 where
+  pub config : new.config ≡ old.config
+  pub program : new.program ≡ old.program
+  pub steps : new.steps ≡ old.steps
+  pub cores : length new.state.now.cores ≡ length old.state.now.cores
+  pub size : bank'.size ≡ bank.size
+
+-- whether each persist is durable, in trace order
+abbrev pub durable_persists : State → List Bool
+durable_persists s = map (durable_set s) (persists_of s.now.trace)
 
 -- Core n runs, and this is what its next instruction does.
 pub record Runs (m : Machine) (n : ℕ) (effect : Effect) : Type 0 where
@@ -86,12 +91,9 @@ pub record Runs (m : Machine) (n : ℕ) (effect : Effect) : Type 0 where
   pub register : HasRegister effect
   pub aligned : IsAligned m.program.sizes effect
 
--- the machine after core n retired its instruction
-abbrev pub retired_in : Machine → ℕ → Machine
-retired_in m n = record m {
-  state = record { now = retire m.program m.state.now n; retired = m.state.retired ++ n ∷ []; durable = m.state.durable };
-  made = m.made + 1;
-}
+-- the machine with another state after one step more
+abbrev pub made_to : Machine → State → Machine
+made_to m s = record m { state = s; made = m.made + 1 }
 
 -- The bank stands for a state: its first words are the image of the durable set over the initial words, the others are those of `base`.
 abbrev pub Stands : List ℕ → Option (List ℕ) → State → BankSeen → Type 0

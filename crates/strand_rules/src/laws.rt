@@ -1,37 +1,65 @@
-ghost use Rattle.std.specs.Prelude.{◌≡◌, ◌<◌, ◌≤◌, ◌++◌, [], ◌∷◌, ℕ, suc, List, length, slice_get, slice_set, Some};
+ghost use Rattle.std.specs.Prelude.{◌≡◌, ◌<◌, ◌≤◌, ◌==◌, ◌||◌, ◌++◌, [], ◌∷◌, ℕ, true, List, length, slice_set};
+ghost use Rattle.strand_inputs.specs.Settings.{Settings};
 ghost use Rattle.strand_inputs.specs.declared.step.Step.{Step};
-ghost use Rattle.strand_inputs.specs.declared.mode.Mode.{Mode};
 ghost use Rattle.strand_exec.specs.Core.{Core};
 ghost use Rattle.strand_exec.specs.Memory.{Memory};
 ghost use Rattle.strand_events.specs.declared.event.Event.{Event};
-ghost use Rattle.strand_events.specs.Trace.{persists_of, word_at, value_at};
+ghost use Rattle.strand_events.specs.Trace.{is_persist, event_is, word_at, value_at};
+ghost use Rattle.strand_events.specs.Places.{place_of, address_of};
 ghost use Rattle.strand_events.specs.Order.{Set, IsDownwardClosed, HoldsJoined};
+ghost use Rattle.strand_modules.specs.Bank.{BankSeen};
+ghost use Rattle.strand_rules.specs.Images.{persistent_image};
 ghost use Rattle.strand_rules.specs.Visible.{Program, visible};
-ghost use Rattle.strand_rules.specs.Cycle.{run, durable_set, start_at, persistent_image, first_persists, place_of, address_of};
+ghost use Rattle.strand_rules.specs.declared.turn.Turn.{Turn};
+ghost use Rattle.strand_rules.specs.Cycle.{State, run, start_at, durable_set, IsReached};
+ghost use Rattle.strand_rules.specs.Machine.{Machine, Steps, StandsOn};
+ghost use Rattle.strand_rules.specs.Parts.{AreInOrder, AreParts, AreSettled, FitBuffers};
 
-/// What holds for every program, every start and every list of steps (docs/persist-order.md, docs/steps.md):
-/// the durable set is downward-closed in persist order, whatever the mode, and holds each persist that a core
-/// made before its last join; and the cores, the memory and the trace are those of the visible run over the
-/// retired cores.
-pub fn durable_sets_are_allowed()
-    ensures closed { (mode : Mode) (p : Program) (cores : List Core) (memory : Memory) (steps : List Step)
-        → IsDownwardClosed mode (run p (start_at cores memory) steps).now.trace (durable_set (run p (start_at cores memory) steps)) }
-    ensures joined { (p : Program) (cores : List Core) (memory : Memory) (steps : List Step)
-        → HoldsJoined (run p (start_at cores memory) steps).now.trace (durable_set (run p (start_at cores memory) steps)) }
-    ensures seen { (p : Program) (cores : List Core) (memory : Memory) (steps : List Step)
-        → (run p (start_at cores memory) steps).now
-        ≡ visible p (start_at cores memory).now (run p (start_at cores memory) steps).retired }
+/// The law over all settings, every program, every start and every list of steps: the cores, the
+/// memory and the trace are those of the visible run over the cores that retired (docs/cycle.md).
+pub fn visible_runs_are_kept()
+    ensures { (g : Settings) (p : Program) (cores : List Core) (memory : Memory) (steps : List Step)
+        → (run g p (start_at cores memory) steps).now
+        ≡ visible p (start_at cores memory).now (run g p (start_at cores memory) steps).retired }
 {}
 
-/// What holds of the image of a trace's first persists, over any initial words: before the first event it is the
-/// initial words; a new event doesn't change it; and one persist more puts that persist's value at its word, where
-/// this is one of the persistent words.
+/// The crash theorem, over all settings, every program, every start and every list of steps
+/// (docs/cycle.md): the durable set is downward-closed in persist order, and holds every persist
+/// that a core made before its last join; and a bank that stands for a state which a run reaches stands
+/// for the state after a step, also where the bank refuses the step's store, for programs whose volatile
+/// words end below the persistent ones.
+pub fn durable_sets_are_allowed()
+    ensures closed { (g : Settings) (p : Program) (cores : List Core) (memory : Memory) (steps : List Step)
+        → IsDownwardClosed g.mode (run g p (start_at cores memory) steps).now.trace (durable_set (run g p (start_at cores memory) steps)) }
+    ensures joined { (g : Settings) (p : Program) (cores : List Core) (memory : Memory) (steps : List Step)
+        → HoldsJoined (run g p (start_at cores memory) steps).now.trace (durable_set (run g p (start_at cores memory) steps)) }
+    ensures stands { (old new : Machine) (step : Step) (turn : Turn) (bank bank' : BankSeen)
+        → IsReached old.config old.program old.state → old.program.sizes.volatile ≤ 1048576
+        → Steps old new bank bank' step turn → StandsOn old.program.sizes.persistent old.state new.state bank bank' }
+{}
+
+/// What holds of the persistent words that a set of persists leaves, over any initial words: before the
+/// first event they are the initial words; a new event that the set doesn't hold doesn't change them; and
+/// one persist more, of whose word the set holds no later persist, puts its value at its word, where this is
+/// one of the persistent words.
 pub fn images_follow_the_trace()
     ensures begins { (words : List ℕ) (set : Set) → persistent_image words [] set ≡ words }
-    ensures grows { (words : List ℕ) (t : List Event) (e : Event) (count : ℕ) → count ≤ length (persists_of t)
-        → persistent_image words (t ++ e ∷ []) (first_persists (t ++ e ∷ []) count) ≡ persistent_image words t (first_persists t count) }
-    ensures stores { (words : List ℕ) (t : List Event) (count k : ℕ) → slice_get (persists_of t) count ≡ Some k
-        → place_of (word_at t k) < length words → word_at t k ≡ address_of (place_of (word_at t k))
-        → persistent_image words t (first_persists t (suc count))
-        ≡ slice_set (persistent_image words t (first_persists t count)) (place_of (word_at t k)) (value_at t k) }
+    ensures grows { (words : List ℕ) (t : List Event) (e : Event) (set : Set) → (set (length t) ≡ true → ⊥)
+        → persistent_image words (t ++ e ∷ []) set ≡ persistent_image words t set }
+    ensures stores { (words : List ℕ) (t : List Event) (set : Set) (p : ℕ) → event_is is_persist t p ≡ true
+        → ((q : ℕ) → p < q → event_is is_persist t q ≡ true → word_at t q ≡ word_at t p → set q ≡ true → ⊥)
+        → place_of (word_at t p) < length words → word_at t p ≡ address_of (place_of (word_at t p))
+        → persistent_image words t (λ k. (k == p) || set k)
+        ≡ slice_set (persistent_image words t set) (place_of (word_at t p)) (value_at t p) }
+{}
+
+/// What holds of every state that a run reaches (docs/cycle.md): the buffered persists, those in flight
+/// and the durable ones are apart, and together the dispatched ones; what is before an access is
+/// durable or stays in its strand; persists are sent by epochs and written by their order; and buffers
+/// hold one strand each, rings and requests no more than the settings say.
+pub fn parts_are_kept()
+    ensures parts { (g : Settings) (p : Program) (s : State) → IsReached g p s → AreParts g s }
+    ensures settled { (g : Settings) (p : Program) (s : State) → IsReached g p s → AreSettled g.mode s.now.trace (durable_set s) }
+    ensures in_order { (g : Settings) (p : Program) (s : State) → IsReached g p s → AreInOrder g.mode s.now.trace s.flight (durable_set s) }
+    ensures buffers { (g : Settings) (p : Program) (s : State) → IsReached g p s → FitBuffers g s }
 {}

@@ -1,17 +1,23 @@
-//! The plain machine: strict cores under a schedule, their visible run, and the bank of memory
-//! modules that it stores to.
+//! The plain machine: up to four cores under a schedule, whose persists go through a queue of their
+//! core, a buffer of their strand and the requests in flight to the bank (docs/cycle.md).
 #![tactic(auto)]
 
-mod bank;
+mod acting;
+mod core_rules;
+mod core_steps;
+mod dispatch_rules;
+mod dispatch_steps;
+mod items;
 mod laws;
 mod plain_machine;
-mod ram_module;
-mod refusals;
+mod send_rules;
+#[cfg(test)]
+mod tests;
 mod turn;
+mod write_steps;
 
-pub use bank::ModuleBank;
-pub use laws::{durable_sets_are_allowed, images_follow_the_trace};
+pub use laws::{
+    durable_sets_are_allowed, images_follow_the_trace, parts_are_kept, visible_runs_are_kept,
+};
 pub use plain_machine::PlainMachine;
-pub use ram_module::RamModule;
-pub use refusals::{AtModule, Refusals};
 pub use turn::{Cause, Turn};

@@ -1,8 +1,8 @@
 -- An image was run on a bank: the fill, the steps, the read at the end.
-use Rattle.std.proofs.Common.{◌≡◌, ℕ, ◌-◌, ◌≤◌, List, [], ◌++◌, length, take, drop, refl, sym, ap, ◌∙◌, arith, inr, subst}
+use Rattle.std.proofs.Common.{◌≡◌, ℕ, ◌+◌, ◌-◌, ◌%◌, ◌≤◌, List, [], ◌++◌, length, take, drop, refl, sym, ap, ◌∙◌, arith, inr, subst}
 use Rattle.std.specs.Prelude.{None, Some, Ok, IfSome, OnSome}
 use Rattle.std.specs.declared.option.Option.{Option}
-use Rattle.std.proofs.lemmas.List.{length-take-le, take_all}
+use Rattle.std.proofs.lemmas.List.{take_all}
 use Rattle.std.proofs.Math.Seq.{take-append_seam}
 use Rattle.std.proofs.lemmas.List.FromFn.{length-map-range_with_len}
 use Rattle.std.proofs.lemmas.Option.{slice_get_within}
@@ -11,21 +11,23 @@ use Rattle.strand_inputs.specs.Settings.{Settings}
 use Rattle.strand_inputs.specs.declared.step.Step.{Step}
 use Rattle.strand_report.specs.declared.bubbles.BubbleAt.{BubbleAt}
 use Rattle.strand_report.specs.declared.fault_lines.StepFault.{StepFault}
-use Rattle.strand_rules.specs.Bank.{BankSeen, Keeps, Fills, Refuses, store_refused, read_refused, front_written}
-use Rattle.strand_rules.specs.declared.refusals.Refusals.{Refusals}
-use Rattle.strand_rules.specs.Cycle.{persistent_image}
-use Rattle.strand_rules.specs.Machine.{program_of}
-use Rattle.strand_rules.proofs.Fronts.{keeps_trans, refuses_after}
-use Rattle.strand_rules.proofs.Stored.{image_begins}
+use Rattle.strand_modules.specs.Bank.{BankSeen, Keeps, Fills, Refuses, store_refused, read_refused, front_written, loads_accepted, stores_accepted}
+use Rattle.strand_modules.specs.declared.refusals.Refusals.{Refusals}
+use Rattle.strand_rules.specs.Images.{persistent_image}
+use Rattle.strand_rules.specs.Machine.{program_of, Machine, machine_at, start_of}
+use Rattle.strand_modules.proofs.Counted.{stores_again}
+use Rattle.strand_modules.proofs.Fronts.{keeps_trans, refuses_after}
+use Rattle.strand_rules.proofs.Images.{image_begins}
 use Rattle.strand_events.specs.Order.{held}
-use Rattle.strand_cycle.specs.Cycle.{State}
-use Rattle.strand_cycle.specs.Machine.{Machine, machine_at, start_of}
-use Rattle.strand_cycle.specs.Run.{CanFail}
+use Rattle.strand_rules.specs.Cycle.{State}
+use Rattle.strand_rules.specs.Run.{CanFail, writes_of}
 use Rattle.strand_run.specs.declared.running.Run.{Run}
 use Rattle.strand_run.specs.declared.running.RunEnd.TheVariants.{ReadRefused, Told}
+use Rattle.strand_run.specs.declared.reading.ReadFault.TheVariants.{Module}
+use Rattle.strand_run.specs.Reading.{ReadFails}
 use Rattle.strand_run.specs.Fault.{absent, step, read, step_and_read}
-use Rattle.strand_run.specs.Stepping.{MakesSteps, Refused, steps_made, steps_before, failed, bubbles_in}
-use Rattle.strand_run.specs.Outcome.{state_after, words_of_state, StepStores, StandsAfter, MayLeave, fault_of, Tells, RunsTo}
+use Rattle.strand_run.specs.Stepping.{MakesSteps, Refused, steps_made, failed, bubbles_in}
+use Rattle.strand_run.specs.Outcome.{state_after, words_of_state, StepStores, StandsAfter, RanAndRead, RanToRefusal, MayLeave, fault_of, Tells, RunsTo}
 
 image_length : (p : Parts) (s : State) → length (words_of_state p s) ≡ length p.persistent
 unfolding persistent_image
@@ -57,20 +59,16 @@ module _ (g : Settings) (p : Parts) (steps : List Step) (m0 m1 : Machine) (b0 b1
     stands2 = subst (λ (s : State). b2.told ≡ front_written (words_of_state p s) b0.told) again.state
         (again.stands p.persistent b0.told refl (fills.done ∙ ap (λ (words : List ℕ). front_written words b0.told) (sym (image_begins p.persistent (held [])))))
 
+    -- what was accepted by then
+    accepted2 : b2.accepted ≡ stores_accepted (length p.persistent + writes_of g (program_of p) (start_of p) (steps_made fault steps)) b0.accepted
+    accepted2 = stores_again b0.accepted b1.accepted b2.accepted (length p.persistent) (writes_of g (program_of p) (start_of p) (steps_made fault steps)) fills.counted again.accepted
+
     -- the step that was refused could fail, and there it was
     could : (f : StepFault) → Refused (machine_at g p (length steps)) steps b1 b2 (Some f) → StepStores (length b0.faults) g p steps f.step f.«module»
     could f refused = subst (λ (n : ℕ). CanFail g (program_of p) (start_of p) steps n (failed f)) fills.kept.count refused.0
 
     within : (f : StepFault) → Refused (machine_at g p (length steps)) steps b1 b2 (Some f) → f.step - 1 ≤ length steps
     within f refused = omega (arith, slice_get_within steps (f.step - 1) refused.0.step refused.0.there)
-
-    -- how many steps were made
-    many : steps_before fault (length steps) ≡ length (steps_made fault steps)
-    many = go fault again.refused
-      where
-        go : (f : Option StepFault) → Refused (machine_at g p (length steps)) steps b1 b2 f → steps_before f (length steps) ≡ length (steps_made f steps)
-        go None refused = refl
-        go (Some f) refused = sym (length-take-le (f.step - 1) steps (within f refused))
 
     module _ (kept : Keeps b2 b3) (same : b3.told ≡ b2.told) where
       kept3 : Keeps b0 b3
@@ -79,14 +77,18 @@ module _ (g : Settings) (p : Parts) (steps : List Step) (m0 m1 : Machine) (b0 b1
       stands3 : StandsAfter g p (steps_made fault steps) b0 b3
       stands3 = same ∙ stands2
 
+      ran3 : (loads : ℕ) → b3.accepted ≡ loads_accepted loads b2.accepted → RanAndRead g p (steps_made fault steps) loads b0 b3
+      ran3 loads counts = (stands3, counts ∙ ap (loads_accepted loads) accepted2)
+
       -- the words were read
-      pub told : (r : Run) → r.stop ≡ steps_before fault (length steps) → r.machine ≡ m1 → r.bubbles.items ≡ bubbles → r.fault ≡ fault → b3.refused ≡ b2.refused → length r.held.items ≡ length p.persistent
+      pub told : (r : Run) → r.machine ≡ m1 → r.bubbles.items ≡ bubbles → r.fault ≡ fault → b3.refused ≡ b2.refused
+          → b3.accepted ≡ loads_accepted (length p.persistent) b2.accepted → length r.held.items ≡ length p.persistent
           → IfSome b2.told (λ all. r.held.items ≡ take (length p.persistent) all) → RunsTo g p steps b0 b3 (Told r)
-      told r stop machine bubbles_are is quiet count words = go fault refl again.refused stands3
+      told r machine bubbles_are is quiet counts count words = go fault refl again.refused (ran3 (length p.persistent) counts)
         where
           tells : Tells g p steps b0 r
           tells = record {
-            stop = stop ∙ many ∙ ap (λ (f : Option StepFault). length (steps_made f steps)) (sym is);
+            made = omega (arith, ap (λ (m : Machine). m.made) machine, again.made, ap (λ (f : Option StepFault). length (steps_made f steps)) is);
             config = ap (λ (m : Machine). m.config) machine ∙ again.config;
             program = ap (λ (m : Machine). m.program) machine ∙ again.program;
             state = ap (λ (m : Machine). m.state) machine ∙ again.state ∙ ap (λ (f : Option StepFault). state_after g p (steps_made f steps)) (sym is);
@@ -96,7 +98,7 @@ module _ (g : Settings) (p : Parts) (steps : List Step) (m0 m1 : Machine) (b0 b1
                 (held_is b0.told b2.told (words_of_state p (state_after g p (steps_made fault steps))) r.held.items (length p.persistent) (image_length p (state_after g p (steps_made fault steps))) stands2 words);
           }
 
-          go : (f : Option StepFault) → fault ≡ f → Refused (machine_at g p (length steps)) steps b1 b2 f → StandsAfter g p (steps_made f steps) b0 b3 → RunsTo g p steps b0 b3 (Told r)
+          go : (f : Option StepFault) → fault ≡ f → Refused (machine_at g p (length steps)) steps b1 b2 f → RanAndRead g p (steps_made f steps) (length p.persistent) b0 b3 → RunsTo g p steps b0 b3 (Told r)
           go None e refused stands = record {
             fault = absent;
             allowed = tt;
@@ -115,10 +117,10 @@ module _ (g : Settings) (p : Parts) (steps : List Step) (m0 m1 : Machine) (b0 b1
           }
 
       -- module n refused the read
-      pub untold : (n : ℕ) → Refuses read_refused b2 b3 n → RunsTo g p steps b0 b3 (ReadRefused n)
-      untold n refuses = go fault again.refused stands3
+      pub untold : (n : ℕ) → ReadFails b2 b3 (length p.persistent) (Module n) → RunsTo g p steps b0 b3 (ReadRefused n)
+      untold n (i, lt, holder, counts, refuses) = go fault again.refused (i, lt, holder ∙ ap (λ (k : ℕ). i % k) kept2.count, ran3 i counts)
         where
-          go : (f : Option StepFault) → Refused (machine_at g p (length steps)) steps b1 b2 f → StandsAfter g p (steps_made f steps) b0 b3 → RunsTo g p steps b0 b3 (ReadRefused n)
+          go : (f : Option StepFault) → Refused (machine_at g p (length steps)) steps b1 b2 f → RanToRefusal g p (steps_made f steps) n b0 b3 → RunsTo g p steps b0 b3 (ReadRefused n)
           go None refused stands = record {
             fault = read n;
             allowed = omega (arith, refuses.exists, kept2.count);
@@ -130,7 +132,7 @@ module _ (g : Settings) (p : Parts) (steps : List Step) (m0 m1 : Machine) (b0 b1
           go (Some f) refused stands = record {
             fault = step_and_read f.step f.«module» n;
             allowed = (could f refused, omega (arith, refuses.exists, kept2.count));
-            shown = record { between = b2; first = refuses_after store_refused b0 b1 b2 f.«module» fills.kept fills.accepted refused.1; second = refuses };
+            shown = record { between = b2; kept_first = kept2; kept_second = kept; first = refuses_after store_refused b0 b1 b2 f.«module» fills.kept fills.accepted refused.1; second = refuses };
             kept = kept3;
             leaves = stands;
             is = (Some f, refl);

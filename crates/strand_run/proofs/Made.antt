@@ -2,7 +2,7 @@
 use Rattle.std.proofs.Common.{◌≡◌, ℕ, ◌+◌, ◌-◌, ◌<◌, ◌≤◌, List, [], ◌∷◌, ◌++◌, ◌%◌, length, take, get_or, refl, sym, ap, ◌∙◌, arith, subst}
 use Rattle.std.specs.Prelude.{None, Some, All}
 use Rattle.std.specs.declared.option.Option.{Option}
-use Rattle.std.proofs.lemmas.List.{take_all}
+use Rattle.std.proofs.lemmas.List.{length-take-le, take_all}
 use Rattle.std.proofs.lemmas.List.Elements.{All-get_or}
 use Rattle.std.proofs.lemmas.Option.{slice_get-get_or}
 use Rattle.strand_inputs.specs.Settings.{Settings}
@@ -10,17 +10,18 @@ use Rattle.strand_inputs.specs.Schedule.{IsBelow}
 use Rattle.strand_inputs.specs.declared.step.Step.{Step}
 use Rattle.strand_report.specs.Bubbles.{bubbles_from}
 use Rattle.strand_report.specs.declared.bubbles.BubbleAt.{BubbleAt}
-use Rattle.strand_rules.specs.Bank.{BankSeen, Keeps, Refuses, store_refused}
-use Rattle.strand_rules.specs.Cycle.{Request}
-use Rattle.strand_rules.specs.Machine.{StoresOk, StoresErr}
+use Rattle.strand_modules.specs.Bank.{BankSeen, Keeps, Refuses, store_refused, stores_accepted}
+use Rattle.strand_rules.specs.Cycle.{Request, State, turn, after, run}
+use Rattle.strand_rules.specs.Machine.{StoresOk, StoresErr, Machine, SameSetup, StandsOn, Steps, stepped, stored_by}
+use Rattle.strand_rules.specs.Run.{stores_of, writes_of}
 use Rattle.strand_rules.specs.Visible.{Program}
 use Rattle.strand_rules.specs.declared.turn.Cause.{Cause}
+use Rattle.strand_rules.specs.declared.turn.Turn.{Turn}
 use Rattle.strand_rules.specs.declared.turn.Turn.TheVariants.{Done, Bubble, Fault}
-use Rattle.strand_rules.proofs.Fronts.{keeps_same, keeps_trans, refuses_after}
-use Rattle.strand_cycle.specs.Cycle.{State, turn, after, run}
-use Rattle.strand_cycle.specs.Machine.{Machine, SameSetup, StandsOn, Steps, stepped, stored_by}
+use Rattle.strand_modules.proofs.Counted.{stores_none, stores_again}
+use Rattle.strand_modules.proofs.Fronts.{keeps_same, keeps_trans, refuses_after}
 use Rattle.strand_run.specs.Stepping.{MakesSteps, bubbles_in}
-use Rattle.strand_run.proofs.Turned.{run_next, bubbles_done, bubbles_bubble}
+use Rattle.strand_run.proofs.Turned.{run_next, writes_next, bubbles_done, bubbles_bubble}
 
 stands_then : (count : ℕ) (a b c : State) (x y z : BankSeen) → StandsOn count a b x y → StandsOn count b c y z → StandsOn count a c x z
 stands_then count a b c x y z first second = λ words base same stands. second words base same (first words base same stands)
@@ -35,6 +36,7 @@ pub record MadeSteps (old now : Machine) (steps : List Step) (i : ℕ) (bank ban
   pub state : now.state ≡ run old.config old.program old.state (take i steps)
   pub kept : Keeps bank bank'
   pub same : bank'.refused ≡ bank.refused
+  pub accepted : bank'.accepted ≡ stores_accepted (writes_of old.config old.program old.state (take i steps)) bank.accepted
   pub stands : StandsOn old.program.sizes.persistent old.state now.state bank bank'
   pub bubbles_are : bubbles ≡ bubbles_in old.config old.program old.state (take i steps)
   pub few : length bubbles ≤ i
@@ -51,6 +53,7 @@ made_none m steps bank bubbles e =
       state = refl;
       kept = keeps_same bank;
       same = refl;
+      accepted = stores_none bank.accepted;
       stands = λ words base long stands. stands;
       bubbles_are = e;
       few = rw e (omega arith);
@@ -59,6 +62,10 @@ made_none m steps bank bubbles e =
 stored_ok : (r : Option Request) (bank bank' : BankSeen) → StoresOk r bank bank' → Keeps bank bank' × (bank'.refused ≡ bank.refused)
 stored_ok None bank bank' e = (subst (λ (b : BankSeen). Keeps bank b) (sym e) (keeps_same bank), ap (λ (b : BankSeen). b.refused) e)
 stored_ok (Some r) bank bank' stores = (stores.kept, stores.accepted)
+
+stored_counts : (r : Option Request) (bank bank' : BankSeen) → StoresOk r bank bank' → bank'.accepted ≡ stores_accepted (stores_of Done r) bank.accepted
+stored_counts None bank bank' e = ap (λ (b : BankSeen). b.accepted) e ∙ stores_none bank.accepted
+stored_counts (Some r) bank bank' stores = stores.counted
 
 -- what a step needs
 pub below_at : (old m : Machine) (steps : List Step) (i : ℕ) (d : Step) (b b' : BankSeen) (bubbles : List BubbleAt) → i < length steps → MadeSteps old m steps i b b' bubbles
@@ -78,9 +85,10 @@ module _ (old m m' : Machine) (steps : List Step) (i : ℕ) (d : Step) (b b' b''
   on = subst (λ (p : Program). StandsOn p.sizes.persistent m.state m'.state b' b'') so.program stands
 
   -- one step more that was done or a bubble
-  made_one : (bubbles' : List BubbleAt) → m' ≡ stepped m (get_or steps i d) → Keeps b' b'' → b''.refused ≡ b'.refused → bubbles' ≡ bubbles_in old.config old.program old.state (take (i + 1) steps)
+  made_one : (bubbles' : List BubbleAt) (t : Turn) → turn m.config m.program m.state (get_or steps i d) ≡ t → m' ≡ stepped m (get_or steps i d) → Keeps b' b'' → b''.refused ≡ b'.refused
+      → b''.accepted ≡ stores_accepted (stores_of t (stored_by m.state (get_or steps i d))) b'.accepted → bubbles' ≡ bubbles_in old.config old.program old.state (take (i + 1) steps)
       → length bubbles' ≤ i + 1 → MadeSteps old m' steps (i + 1) b b'' bubbles'
-  made_one bubbles' is kept same bubbles_are few =
+  made_one bubbles' t turned is kept same counts bubbles_are few =
       let state = ap (λ (x : Machine). x.state) is in
       record {
         config = setup.config ∙ so.config;
@@ -92,6 +100,9 @@ module _ (old m m' : Machine) (steps : List Step) (i : ℕ) (d : Step) (b b' b''
             ∙ ap (λ (s : State). after old.config old.program s (get_or steps i d)) so.state ∙ sym (run_next old.config old.program old.state steps i d lt);
         kept = keeps_trans b b' b'' so.kept kept;
         same = same ∙ so.same;
+        accepted = stores_again b.accepted b'.accepted b''.accepted (writes_of old.config old.program old.state (take i steps)) (stores_of t (stored_by m.state (get_or steps i d))) so.accepted counts
+            ∙ ap (λ (n : ℕ). stores_accepted n b.accepted) (ap (λ (s : State). writes_of old.config old.program old.state (take i steps) + stores_of t (stored_by s (get_or steps i d))) so.state
+            ∙ sym (writes_next old.config old.program old.state steps i d t lt (turn_at old m steps i d b b' bubbles so ∙ turned)));
         stands = stands_then old.program.sizes.persistent old.state m.state m'.state b b' b'' so.stands on;
         bubbles_are = bubbles_are;
         few = few;
@@ -101,32 +112,35 @@ module _ (old m m' : Machine) (steps : List Step) (i : ℕ) (d : Step) (b b' b''
   made_done made =
       let stored = stored_ok (stored_by m.state (get_or steps i d)) b' b'' made.2 in
       let is = turn_at old m steps i d b b' bubbles so ∙ made.0 in
-      made_one bubbles made.1 stored.0 stored.1 (so.bubbles_are ∙ sym (bubbles_done old.config old.program old.state steps i d lt is)) (omega (arith, so.few))
+      made_one bubbles Done made.0 made.1 stored.0 stored.1 (stored_counts (stored_by m.state (get_or steps i d)) b' b'' made.2) (so.bubbles_are ∙ sym (bubbles_done old.config old.program old.state steps i d lt is)) (omega (arith, so.few))
 
   pub made_bubble : (cause : Cause) (bubble : BubbleAt) (more : List BubbleAt) → Steps m m' b' b'' (get_or steps i d) (Bubble cause) → bubble ≡ record { cycle = i + 1; cause = cause }
       → more ≡ bubbles ++ bubble ∷ [] → length more ≡ length bubbles + 1 → MadeSteps old m' steps (i + 1) b b'' more
   made_bubble cause bubble more made at pushed long =
       let is = turn_at old m steps i d b b' bubbles so ∙ made.0 in
-      made_one more made.1 (subst (λ (x : BankSeen). Keeps b' x) (sym made.2) (keeps_same b')) (ap (λ (x : BankSeen). x.refused) made.2)
+      made_one more (Bubble cause) made.0 made.1 (subst (λ (x : BankSeen). Keeps b' x) (sym made.2) (keeps_same b')) (ap (λ (x : BankSeen). x.refused) made.2)
+      (ap (λ (x : BankSeen). x.accepted) made.2 ∙ stores_none b'.accepted)
       (rw (pushed, at, so.bubbles_are) (sym (bubbles_bubble old.config old.program old.state steps i d cause lt is))) (omega (arith, so.few, long))
 
 refused_at : (s : State) (step : Step) (b b' : BankSeen) (m : ℕ) → StoresErr (stored_by s step) b b' m
-    → (r : Request) × (stored_by s step ≡ Some r) × (m ≡ r.place % length b.faults) × Refuses store_refused b b' m × Keeps b b'
+    → (r : Request) × (stored_by s step ≡ Some r) × (m ≡ r.place % length b.faults) × Refuses store_refused b b' m × Keeps b b' × (b'.accepted ≡ b.accepted)
 refused_at s step b b' m refused = go (stored_by s step) refl refused
   where
-    go : (o : Option Request) → stored_by s step ≡ o → StoresErr o b b' m → (r : Request) × (stored_by s step ≡ Some r) × (m ≡ r.place % length b.faults) × Refuses store_refused b b' m × Keeps b b'
+    go : (o : Option Request) → stored_by s step ≡ o → StoresErr o b b' m → (r : Request) × (stored_by s step ≡ Some r) × (m ≡ r.place % length b.faults) × Refuses store_refused b b' m × Keeps b b' × (b'.accepted ≡ b.accepted)
     go None e refused = absurd refused
-    go (Some r) e refused = (r, e, refused.refused.0, refused.refused.1, refused.kept)
+    go (Some r) e refused = (r, e, refused.refused.0, refused.refused.1, refused.kept, refused.uncounted)
 
-pub made_all : (old m : Machine) (steps : List Step) (i : ℕ) (b b' : BankSeen) (bubbles : List BubbleAt) → length steps ≤ i → MadeSteps old m steps i b b' bubbles → MakesSteps old m steps b b' bubbles None
+pub made_all : (old m : Machine) (steps : List Step) (i : ℕ) (b b' : BankSeen) (bubbles : List BubbleAt) → i ≡ length steps → MadeSteps old m steps i b b' bubbles → MakesSteps old m steps b b' bubbles None
 made_all old m steps i b b' bubbles all so =
-    let whole = take_all i steps all in
+    let whole = take_all i steps (omega (arith, all)) in
     record {
       config = so.config;
       program = so.program;
+      made = so.made ∙ ap (λ (n : ℕ). old.made + n) all;
       state = so.state ∙ ap (λ (xs : List Step). run old.config old.program old.state xs) whole;
       bubbles_are = so.bubbles_are ∙ ap (λ (xs : List Step). bubbles_in old.config old.program old.state xs) whole;
       refused = so.same;
+      accepted = so.accepted ∙ ap (λ (xs : List Step). stores_accepted (writes_of old.config old.program old.state xs) b.accepted) whole;
       kept = so.kept;
       stands = so.stands;
     }
@@ -141,6 +155,7 @@ made_until old m m' steps i x d b b' b'' bubbles lt so made setup stands =
     record {
       config = setup.config ∙ so.config;
       program = setup.program ∙ so.program;
+      made = rw (one, length-take-le i steps (omega (arith, lt))) (ap (λ (y : Machine). y.made) made.1 ∙ so.made);
       state = rw one (ap (λ (y : Machine). y.state) made.1 ∙ so.state);
       bubbles_are = rw one so.bubbles_are;
       refused = (
@@ -155,6 +170,7 @@ made_until old m m' steps i x d b b' b'' bubbles lt so made setup stands =
         },
         refuses_after store_refused b b' b'' x so.kept so.same part.3,
       );
+      accepted = rw one (part.5 ∙ so.accepted);
       kept = keeps_trans b b' b'' so.kept part.4;
       stands = stands_then old.program.sizes.persistent old.state m.state m'.state b b' b'' so.stands (on old m m' steps i d b b' b'' bubbles lt so setup stands);
     }

@@ -9,8 +9,9 @@ use Rattle.strand_rules.specs.Visible.{Program}
 use Rattle.strand_rules.specs.declared.turn.Cause.{Cause}
 use Rattle.strand_rules.specs.declared.turn.Turn.{Turn}
 use Rattle.strand_rules.specs.declared.turn.Turn.TheVariants.{Done, Bubble, Fault}
-use Rattle.strand_cycle.specs.Cycle.{State, turn, after, run}
-use Rattle.strand_cycle.specs.Run.{turns}
+use Rattle.strand_rules.specs.Cycle.{State, turn, after, run}
+use Rattle.strand_rules.specs.Machine.{stored_by}
+use Rattle.strand_rules.specs.Run.{turns, stores_of, writes_of}
 use Rattle.strand_run.specs.Stepping.{bubbles_in}
 
 -- one step more at the end
@@ -28,6 +29,15 @@ turns_more g p s (first ∷ steps) step = ap (λ (ts : List Turn). turn g p s fi
 turns_length : (g : Settings) (p : Program) (s : State) (steps : List Step) → length (turns g p s steps) ≡ length steps
 turns_length g p s [] = refl
 turns_length g p s (first ∷ steps) = ap suc (turns_length g p (after g p s first) steps)
+
+-- the stores of one step more
+writes_more : (g : Settings) (p : Program) (s : State) (steps : List Step) (step : Step) → writes_of g p s (steps ++ step ∷ []) ≡ writes_of g p s steps + stores_of (turn g p (run g p s steps) step) (stored_by (run g p s steps) step)
+writes_more g p s [] step = omega arith
+writes_more g p s (first ∷ steps) step = omega (arith, writes_more g p (after g p s first) steps step)
+
+pub writes_next : (g : Settings) (p : Program) (s : State) (steps : List Step) (i : ℕ) (d : Step) (t : Turn) → i < length steps → turn g p (run g p s (take i steps)) (get_or steps i d) ≡ t
+    → writes_of g p s (take (i + 1) steps) ≡ writes_of g p s (take i steps) + stores_of t (stored_by (run g p s (take i steps)) (get_or steps i d))
+writes_next g p s steps i d t lt is = rw (take_more steps i d lt, ← is) (writes_more g p s (take i steps) (get_or steps i d))
 
 shift : (k : ℕ) (ts : List Turn) (t : Turn) (front : List BubbleAt) → front ++ bubbles_from (length ts + suc k) (t ∷ []) ≡ front ++ bubbles_from (suc (length ts) + k) (t ∷ [])
 shift k ts t front = ap (λ (n : ℕ). front ++ bubbles_from n (t ∷ [])) (omega arith)

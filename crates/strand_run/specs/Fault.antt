@@ -1,6 +1,6 @@
 -- The one fault that a call meets outside, and what the bank shows of it.
 use Rattle.std.specs.Prelude.{◌≡◌, ℕ}
-use Rattle.strand_rules.specs.Bank.{BankSeen, Refuses, fill_refused, store_refused, read_refused}
+use Rattle.strand_modules.specs.Bank.{BankSeen, Keeps, Refuses, fill_refused, store_refused, read_refused}
 
 -- Files are counted from 1, modules from 0, steps from 1.
 pub data Fault : Type 0 where
@@ -19,6 +19,8 @@ pub data Fault : Type 0 where
 -- one refusal after another
 pub record RefusesTwice (before after : BankSeen) (m n : ℕ) : Type 0 where
   pub between : BankSeen
+  pub kept_first : Keeps before between
+  pub kept_second : Keeps between after
   pub first : Refuses store_refused before between m
   pub second : Refuses read_refused between after n
 

@@ -3,7 +3,7 @@ ghost use Rattle.strand_run.specs.Reading.{ReadsFirst};
 ghost use Rattle.strand_run.specs.declared.reading.ReadFault.TheVariants.{OutOfMemory};
 
 use std::alloc::{AllocFailed, Global};
-use strand_rules::{AtModule, ModuleBank};
+use strand_modules::{AtModule, ModuleBank};
 
 /// Why the bank's words were not read.
 #[derive(Clone, Copy, Debug, PartialEq, Eq)]

@@ -1,27 +1,24 @@
 ghost use Rattle.std.specs.Prelude.{◌≡◌, ◌≤◌, All, length, IfOk, OnErr};
 ghost use Rattle.strand_inputs.specs.Schedule.{IsBelow};
-ghost use Rattle.strand_rules.specs.Bank.{Keeps};
+ghost use Rattle.strand_modules.specs.Bank.{Keeps};
 ghost use Rattle.strand_run.specs.Outcome.{MayLeave, RunsTo};
-ghost use Rattle.strand_run.specs.Stepping.{steps_before};
 
 use crate::reading::{ReadFault, read_words};
 use crate::stepping::make_steps;
 use std::alloc::Global;
 use strand_base::OutOfMemory;
-use strand_cycle::CycleMachine;
 use strand_image::Image;
 use strand_inputs::{Config, Step};
+use strand_modules::{AtModule, ModuleBank};
 use strand_report::{BubbleAt, StepFault};
-use strand_rules::{AtModule, ModuleBank};
+use strand_rules::PlainMachine;
 
 /// What a run came to whose words were read at the end.
 #[derive(Drop)]
 pub struct Run {
-    /// How many steps were made.
-    pub stop: u64,
-    /// The machine after them.
-    pub machine: CycleMachine,
-    /// Those of them that did nothing.
+    /// The machine after the steps that were made.
+    pub machine: PlainMachine,
+    /// Those of the steps that did nothing.
     pub bubbles: Vec<BubbleAt>,
     /// The words that the modules hold, as many as the image has persistent words.
     pub held: Vec<u64>,
@@ -55,7 +52,7 @@ pub fn run_image(
     ensures ran { IfOk result (λ end. RunsTo config.now image.now steps.now bank.old bank.new end) }
     ensures memory { OnErr result (Keeps bank.old bank.new × MayLeave config.now image.now steps.now bank.old bank.new) }
 {
-    let mut machine = CycleMachine::new(alloc, config, image, steps.len() as u64)?;
+    let mut machine = PlainMachine::new(alloc, config, image, steps.len() as u64)?;
     let mut bubbles = Vec::with_capacity(alloc, steps.len())?;
     let count = image.persistent().len();
     if let Err(AtModule { module }) = bank.fill(image.persistent()) {
@@ -65,7 +62,6 @@ pub fn run_image(
     match read_words(alloc, count, bank) {
         Ok(held) => Ok(RunEnd::Told {
             run: Run {
-                stop: steps_made(fault, steps),
                 machine,
                 bubbles,
                 held,
@@ -74,15 +70,5 @@ pub fn run_image(
         }),
         Err(ReadFault::Module { module }) => Ok(RunEnd::ReadRefused { module }),
         Err(ReadFault::OutOfMemory) => Err(OutOfMemory),
-    }
-}
-
-// How many steps were made.
-fn steps_made(fault: Option<StepFault>, steps: &[Step]) -> u64
-    ensures { result ≡ steps_before fault (length steps.now) }
-{
-    match fault {
-        Some(fault) => fault.step.saturating_sub(1),
-        None => steps.len() as u64,
     }
 }

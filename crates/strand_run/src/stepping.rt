@@ -2,14 +2,14 @@ ghost use Rattle.std.specs.Prelude.{◌≡◌, ◌≤◌, ◌+◌, [], All, leng
 ghost use Rattle.strand_inputs.specs.Schedule.{IsBelow};
 ghost use Rattle.strand_run.specs.Stepping.{MakesSteps};
 
-use strand_cycle::CycleMachine;
 use strand_inputs::Step;
+use strand_modules::ModuleBank;
 use strand_report::{BubbleAt, StepFault};
-use strand_rules::{ModuleBank, Turn};
+use strand_rules::{PlainMachine, Turn};
 
 /// Makes the steps, up to the first whose store a module refuses, and notes those that did nothing.
 pub fn make_steps(
-    machine: &mut CycleMachine,
+    machine: &mut PlainMachine,
     steps: &[Step],
     bank: &mut ModuleBank,
     bubbles: &mut Vec<BubbleAt>,

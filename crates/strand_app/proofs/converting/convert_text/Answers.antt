@@ -1,6 +1,6 @@
 use Rattle.std.proofs.Common.{ℕ, Vec, Global}
 use Rattle.strand_app.specs.Convert.{asm_text}
-use Rattle.strand_app.proofs.Opened.{bytes_whole, bytes_long}
+use Rattle.strand_app.proofs.ReadFiles.{bytes_whole, bytes_long}
 use Rattle.strand_app.proofs.Converted.{converts, converts_long, converts_failed, failed_of, text_long}
 use Rattle.strand_app.proofs.converting.convert_text.Goals as goal
 

@@ -1,6 +1,6 @@
 use Rattle.strand_app.specs.CommandView.{view}
 use Rattle.strand_app.specs.World.{world}
-use Rattle.strand_app.proofs.Whole.{run_runs}
+use Rattle.strand_app.proofs.RunMade.{run_runs}
 use Rattle.strand_app.proofs.top.run_command.Goals as goal
 
 pub returns-in-Some : goal.returns-in-Some

@@ -2,7 +2,8 @@ use Rattle.std.proofs.Common.{◌≡◌, List, ℕ, Option, Some, None, length, 
 use Rattle.std.specs.Prelude.{MatchOption}
 use Rattle.strand_events.specs.declared.event.Event.{Event}
 use Rattle.strand_events.specs.Order.{Set, held}
-use Rattle.strand_judge.specs.Words.{crash_of, LieIn}
+use Rattle.strand_events.specs.Places.{LieIn}
+use Rattle.strand_judge.specs.Words.{crash_of}
 use Rattle.strand_judge.specs.Forcing.{IsImage, LacksNone, LacksFirst}
 use Rattle.strand_judge.specs.Lacking.{Lacks, LacksNothing}
 use Rattle.strand_judge.proofs.Lacked.{lacks_nothing, lacks}

@@ -1,5 +1,5 @@
 use Rattle.std.proofs.Common.{length}
-use Rattle.strand_order.proofs.Listed.{edge_listed, listed_edge, listed_in_order}
+use Rattle.strand_order.proofs.Listed.{edge_listed, listed_edge, listed_rising}
 use Rattle.strand_order.proofs.laws.edges_are_listed.Goals as goal
 
 pub returns-clause-all : goal.returns-clause-all
@@ -9,4 +9,4 @@ pub returns-clause-only : goal.returns-clause-only
 returns-clause-only c = λ mode t. listed_edge mode t (length t)
 
 pub returns-clause-order : goal.returns-clause-order
-returns-clause-order c = λ mode t. listed_in_order mode t (length t)
+returns-clause-order c = λ mode t. listed_rising mode t (length t)

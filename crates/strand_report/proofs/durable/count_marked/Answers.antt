@@ -1,12 +1,14 @@
 use Rattle.std.proofs.Common.{arith}
-use Rattle.strand_report.proofs.Marked.{count_more, count_same, count_all}
+use Rattle.strand_events.specs.Order.{held}
+use Rattle.strand_report.proofs.Counted.{count_more, count_same}
+use Rattle.strand_report.proofs.Marked.{count_all}
 use Rattle.strand_report.proofs.durable.count_marked.Goals.{then-mark, else-mark}
 use Rattle.strand_report.proofs.durable.count_marked.Goals as goal
 
 pub loop-mark-preserved : goal.loop-mark-preserved
 loop-mark-preserved c = elim c.if-mark.branch [
-  | then-mark w ↦ count_more c.args.marks.now c.loop-mark.mark-index c.loop-mark.count _ w.if-mark.true c.loop-mark.invariant w.count-is
-  | else-mark w ↦ count_same c.args.marks.now c.loop-mark.mark-index c.loop-mark.count _ w.if-mark.false c.loop-mark.invariant w.count-is
+  | then-mark w ↦ count_more (held c.args.marks.now) c.loop-mark.mark-index c.loop-mark.count _ w.if-mark.true c.loop-mark.invariant w.count-is
+  | else-mark w ↦ count_same (held c.args.marks.now) c.loop-mark.mark-index c.loop-mark.count _ w.if-mark.false c.loop-mark.invariant w.count-is
 ]
 
 pub returns : goal.returns

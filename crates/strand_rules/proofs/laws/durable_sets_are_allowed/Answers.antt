@@ -1,12 +1,12 @@
-use Rattle.strand_rules.specs.Cycle.{run, start_at}
-use Rattle.strand_rules.proofs.Allowed.{first_closed, run_good, start_good}
+use Rattle.strand_rules.proofs.GoodRun.{run_closed, run_joined}
+use Rattle.strand_rules.proofs.Reached.{reached_stands}
 use Rattle.strand_rules.proofs.laws.durable_sets_are_allowed.Goals as goal
 
 pub returns-clause-closed : goal.returns-clause-closed
-returns-clause-closed c = λ mode p cores memory steps. first_closed mode (run p (start_at cores memory) steps).now.trace (run p (start_at cores memory) steps).durable
+returns-clause-closed c = run_closed
 
 pub returns-clause-joined : goal.returns-clause-joined
-returns-clause-joined c = λ p cores memory steps. (run_good p (start_at cores memory).now (start_at cores memory) steps (start_good p cores memory)).joined
+returns-clause-joined c = run_joined
 
-pub returns-clause-seen : goal.returns-clause-seen
-returns-clause-seen c = λ p cores memory steps. (run_good p (start_at cores memory).now (start_at cores memory) steps (start_good p cores memory)).seen
+pub returns-clause-stands : goal.returns-clause-stands
+returns-clause-stands c = reached_stands

@@ -1,4 +1,4 @@
-use Rattle.strand_rules.proofs.Stored.{image_begins, image_more, image_stored}
+use Rattle.strand_rules.proofs.Images.{image_begins, image_more, image_one}
 use Rattle.strand_rules.proofs.laws.images_follow_the_trace.Goals as goal
 
 pub returns-clause-begins : goal.returns-clause-begins
@@ -8,4 +8,4 @@ pub returns-clause-grows : goal.returns-clause-grows
 returns-clause-grows c = image_more
 
 pub returns-clause-stores : goal.returns-clause-stores
-returns-clause-stores c = image_stored
+returns-clause-stores c = image_one

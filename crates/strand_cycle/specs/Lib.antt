@@ -1,6 +1,0 @@
-pub mod Cycle
-pub mod Machine
-pub mod Run
-pub mod Looking
-pub mod Kept
-pub mod Parts

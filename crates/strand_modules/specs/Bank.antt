@@ -1,0 +1,99 @@
+-- A bank of memory modules, as contracts see it at one moment, and its calls.
+use Rattle.std.specs.Prelude.{◌≡◌, ℕ, ◌+◌, ◌-◌, ◌%◌, ◌^◌, ◌<◌, ◌≤◌, min, max, List, [], ◌∷◌, ◌++◌, length, take, drop, slice_get, slice_set, slice_index, slice_index_or, Some, IfOk, IfErr, IfSome, OnOk, OnErr}
+use Rattle.std.specs.Option.{option_map}
+use Rattle.std.specs.declared.option.Option.{Option}
+use Rattle.std.specs.declared.result.Result.{Result}
+use Rattle.strand_base.specs.ModuleSeen.{ModuleSeen, written}
+use Rattle.strand_base.specs.Counts.{Rose}
+use Rattle.strand_modules.specs.declared.refusals.Refusals.{Refusals}
+use Rattle.strand_modules.specs.declared.refusals.AtModule.{AtModule}
+use Rattle.strand_modules.specs.declared.accepted.Accepted.{Accepted}
+
+pub record BankSeen : Type 0 where
+  -- how many words it has
+  pub size : ℕ
+  -- its words, where all its modules tell theirs
+  pub told : Option (List ℕ)
+  -- each module's count of faults
+  pub faults : List ℕ
+  -- what each module refused
+  pub refused : List Refusals
+  -- what was accepted, of all modules together
+  pub accepted : Accepted
+
+-- the bank of one module
+abbrev pub bank_of_one : ModuleSeen → Refusals → Accepted → BankSeen
+bank_of_one part refused accepted = record { size = part.size; told = part.told; faults = part.faults ∷ []; refused = refused ∷ []; accepted = accepted }
+
+abbrev pub nothing_refused : Refusals
+nothing_refused = record { fills = 0; stores = 0; reads = 0 }
+
+abbrev pub nothing_accepted : Accepted
+nothing_accepted = record { loads = 0; stores = 0 }
+
+-- so many more; a count stays at the last value of a u64
+abbrev pub counted : ℕ → ℕ → ℕ
+counted more n = max n (min (n + more) (2 ^ 64 - 1))
+
+abbrev pub loads_accepted : ℕ → Accepted → Accepted
+loads_accepted more a = record a { loads = counted more a.loads }
+
+abbrev pub stores_accepted : ℕ → Accepted → Accepted
+stores_accepted more a = record a { stores = counted more a.stores }
+
+abbrev pub fill_refused : Refusals → Refusals
+fill_refused r = record r { fills = counted 1 r.fills }
+
+abbrev pub store_refused : Refusals → Refusals
+store_refused r = record r { stores = counted 1 r.stores }
+
+abbrev pub read_refused : Refusals → Refusals
+read_refused r = record r { reads = counted 1 r.reads }
+
+-- no call changes the number of words or of modules, and no count of faults falls
+pub record Keeps (old new : BankSeen) : Type 0 where
+  pub size : new.size ≡ old.size
+  pub count : length new.faults ≡ length old.faults
+  pub later : (k : ℕ) → slice_index old.faults k ≤ slice_index new.faults k
+
+-- Module k refused: that is counted, and its count of faults rose.
+pub record Refuses (count : Refusals → Refusals) (old new : BankSeen) (k : ℕ) : Type 0 where
+  pub exists : k < length old.faults
+  pub counted : new.refused ≡ slice_set old.refused k (count (slice_index_or old.refused k nothing_refused))
+  pub rose : Rose (slice_index old.faults k) (slice_index new.faults k)
+
+-- a read of word i
+pub record Loads (old new : BankSeen) (i : ℕ) (result : Result ℕ AtModule) : Type 0 where
+  pub kept : Keeps old new
+  pub same : new.told ≡ old.told
+  pub value : IfOk result (λ value. IfSome old.told (λ words. slice_get words i ≡ Some value))
+  pub accepted : OnOk result (new.refused ≡ old.refused)
+  pub counted : OnOk result (new.accepted ≡ loads_accepted 1 old.accepted)
+  pub refused : IfErr result (λ e. (e.«module» ≡ i % length old.faults) × Refuses read_refused old new e.«module»)
+  pub uncounted : OnErr result (new.accepted ≡ old.accepted)
+
+-- a store of a value at word i
+pub record Stores {T : Type 0} (count : Refusals → Refusals) (old new : BankSeen) (i value : ℕ) (result : Result T AtModule) : Type 0 where
+  pub kept : Keeps old new
+  -- what is told is all the words
+  pub whole : IfSome old.told (λ words. length words ≡ old.size)
+  pub done : OnOk result (new.told ≡ written old.told i value)
+  pub accepted : OnOk result (new.refused ≡ old.refused)
+  pub counted : OnOk result (new.accepted ≡ stores_accepted 1 old.accepted)
+  pub same : OnErr result (new.told ≡ old.told)
+  pub refused : IfErr result (λ e. (e.«module» ≡ i % length old.faults) × Refuses count old new e.«module»)
+  pub uncounted : OnErr result (new.accepted ≡ old.accepted)
+
+-- the words, with others in front
+abbrev pub front_written : List ℕ → Option (List ℕ) → Option (List ℕ)
+front_written front told = option_map (λ words. front ++ drop (length front) words) told
+
+-- stores of the first words, in order
+pub record Fills {T : Type 0} (old new : BankSeen) (words : List ℕ) (result : Result T AtModule) : Type 0 where
+  pub kept : Keeps old new
+  pub done : OnOk result (new.told ≡ front_written words old.told)
+  pub accepted : OnOk result (new.refused ≡ old.refused)
+  pub counted : OnOk result (new.accepted ≡ stores_accepted (length words) old.accepted)
+  -- the words before the refused one are stored
+  pub refused : IfErr result (λ e. (n : ℕ) × (n < length words) × (e.«module» ≡ n % length old.faults)
+      × (new.told ≡ front_written (take n words) old.told) × (new.accepted ≡ stores_accepted n old.accepted) × Refuses fill_refused old new e.«module»)

@@ -1,0 +1,53 @@
+-- A send keeps the order of the parts.
+use Rattle.std.proofs.Common.{◌≡◌, ℕ, ◌<◌, true, false, ◌&&◌, inl, length, ◌∙◌, arith, length-set}
+use Rattle.std.specs.Prelude.{Some, None, slice_get, slice_index, nat_lt, not, ◌==◌}
+use Rattle.std.specs.declared.option.Option.{Option}
+use Rattle.std.proofs.lemmas.Bool.{and_parts, and_from, eq-eqb, lt-ltb, both_ways, not-true}
+use Rattle.strand_base.proofs.Counting.{any_false, list_get}
+use Rattle.strand_inputs.specs.Settings.{Settings}
+use Rattle.strand_events.specs.Trace.{is_persist, word_at, event_is, same_strand, epoch}
+use Rattle.strand_events.specs.Order.{held}
+use Rattle.strand_rules.specs.Cycle.{State, is_lower, epoch_waits, word_waits, is_in_buffer, is_eligible, eligible, send_after}
+use Rattle.strand_rules.specs.Parts.{Older, Lower}
+use Rattle.strand_rules.proofs.Keeping.{within}
+use Rattle.strand_rules.proofs.Sending.{eligible_marked}
+use Rattle.strand_rules.proofs.MarkSets.{held_unset}
+use Rattle.strand_rules.proofs.SendStep.{sends}
+use Rattle.strand_rules.proofs.Apart.{send_apart}
+use Rattle.strand_rules.proofs.Turns.{then_so}
+use Rattle.strand_rules.proofs.Good.{IsGood}
+
+no_lower : (g : Settings) (s : State) (p : ℕ) → epoch_waits g s p ≡ false → (x : ℕ) → Lower g.mode s.now.trace x p → held s.durable x ≡ true
+no_lower g s p none x l =
+    let at = any_false (length s.now.trace) (λ q. is_lower g.mode s.now.trace (held s.durable) q p) none x (within is_persist s.now.trace x l.persist) in
+    then_so (event_is is_persist s.now.trace x && same_strand g.mode s.now.trace x p && nat_lt (epoch g.mode s.now.trace x) (epoch g.mode s.now.trace p)) (held s.durable x) at
+    (and_from (event_is is_persist s.now.trace x && same_strand g.mode s.now.trace x p) (nat_lt (epoch g.mode s.now.trace x) (epoch g.mode s.now.trace p))
+    (and_from (event_is is_persist s.now.trace x) (same_strand g.mode s.now.trace x p) l.persist l.strand)
+    (lt-ltb (epoch g.mode s.now.trace x) (epoch g.mode s.now.trace p) l.epoch))
+
+no_older : (g : Settings) (s : State) (p : ℕ) → word_waits g s p ≡ false → (x : ℕ) → Older g.mode s.now.trace x p → held s.buffered x ≡ true → ⊥
+no_older g s p none x o b =
+    let at = any_false p (λ q. held s.buffered q && same_strand g.mode s.now.trace q p && (word_at s.now.trace q == word_at s.now.trace p)) none x o.earlier in
+    both_ways (held s.buffered x && same_strand g.mode s.now.trace x p && (word_at s.now.trace x == word_at s.now.trace p)) at
+    (and_from (held s.buffered x && same_strand g.mode s.now.trace x p) (word_at s.now.trace x == word_at s.now.trace p)
+    (and_from (held s.buffered x) (same_strand g.mode s.now.trace x p) b o.strand)
+    (eq-eqb (word_at s.now.trace x) (word_at s.now.trace p) o.word))
+
+pub send_good : (g : Settings) (s : State) (n b j : ℕ) → IsGood g s → (o : Option ℕ) → slice_get (eligible g s n b) j ≡ o → IsGood g (send_after s o)
+send_good g s n b j good None is = good
+send_good g s n b j good (Some p) is =
+    let found = list_get (length s.now.trace) (is_eligible g s n b) j p is in
+    let one = and_parts (is_in_buffer g s n b p && not (epoch_waits g s p)) (not (word_waits g s p)) found.1 in
+    let two = and_parts (is_in_buffer g s n b p) (not (epoch_waits g s p)) one.0 in
+    let marked : held s.buffered p ≡ true = eligible_marked g s n b p found.1 in
+    let inside : p < length s.buffered = omega (arith, within is_persist s.now.trace p (good.ordered.persists p (inl marked)), good.buffered_marks) in
+    record {
+      ordered = rw (held_unset s.buffered p inside) (sends g.mode s.now.trace (slice_index s.dispatched) (held s.buffered) s.flight (held s.durable) good.ordered p marked
+          (λ x l. no_lower g s p (not-true (epoch_waits g s p) two.1) x l)
+          (λ x o b. no_older g s p (not-true (word_waits g s p) one.1) x o b));
+      apart = rw (held_unset s.buffered p inside) (send_apart (held s.buffered) s.flight (held s.durable) good.apart p marked);
+      buffered_marks = length-set s.buffered p false ∙ good.buffered_marks;
+      durable_marks = good.durable_marks;
+      counts = good.counts;
+      owned = good.owned;
+    }

@@ -1,0 +1,11 @@
+use Rattle.std.proofs.Common.{sym, subst, ◌∙◌}
+use Rattle.strand_rules.specs.Cycle.{IsReached}
+use Rattle.strand_rules.specs.Machine.{Machine}
+use Rattle.strand_rules.proofs.Reached.{item_reached}
+use Rattle.strand_rules.proofs.plain_machine.PlainMachine.step_dispatch.Goals as goal
+
+pub dispatch-requires-clause-reached : goal.dispatch-requires-clause-reached
+dispatch-requires-clause-reached c =
+    let m = c.args.self.now in
+    let reached : IsReached m.config m.program m.state = subst (λ (m : Machine). IsReached m.config m.program m.state) c.self.view_is c.self.invariant.reached in
+    item_reached m c.args.n c.in-Some.k reached (sym c.in-Some.ensures.front) (sym c.item_turn-turn.ensures ∙ c.in-Done.is)

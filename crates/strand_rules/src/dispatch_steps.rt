@@ -1,0 +1,122 @@
+// The steps of a core's queue.
+ghost use Rattle.std.specs.Prelude.{◌≡◌, ◌<◌, ◌+◌, ◌-◌, ◌^◌, true, IfSome, Some, if◌then◌else◌, length, slice_index, slice_set, vec_capacity};
+ghost use Rattle.strand_events.specs.Trace.{strand_number};
+ghost use Rattle.strand_inputs.specs.declared.step.Step.TheVariants.{Dispatch};
+ghost use Rattle.strand_rules.specs.Cycle.{turn, front, ring_use, buffer_of, buffer_busy, item_turn, item_after, IsReached};
+ghost use Rattle.strand_rules.specs.Machine.{stepped, made_to};
+
+use crate::PlainMachine;
+use crate::dispatch_rules::{buffer_busy, item_at, ring_use};
+use crate::items::is_persist_at;
+use crate::turn::{Cause, Turn};
+
+impl PlainMachine {
+    // The first item of core n's queue.
+    fn front(&self, n: u32) -> Option<usize>
+        requires { n < length self.now.state.now.cores }
+        ensures front { result ≡ front self.now.config self.now.state n }
+        ensures within { IfSome result (λ k. k < length self.now.state.now.trace) }
+    {
+        let config = self.config;
+        item_at(
+            self.trace.events(),
+            config.mode,
+            n,
+            self.dispatched[n as usize],
+        )
+    }
+
+    // How many places of its ring the strand of item k uses, the first of core n's queue.
+    fn ring_use(&self, n: u32, k: usize) -> u32
+        requires within { k < length self.now.state.now.trace }
+        requires front { front self.now.config self.now.state n ≡ Some k }
+        ensures { result ≡ ring_use self.now.config self.now.state n k }
+    {
+        let config = self.config;
+        ring_use(&self.trace, config.mode, &self.durable, n, k)
+    }
+
+    // Whether the buffer of the strand that item k begins isn't empty, the first of core n's queue.
+    fn buffer_busy(&self, n: u32, k: usize) -> bool
+        requires within { k < length self.now.state.now.trace }
+        requires front { front self.now.config self.now.state n ≡ Some k }
+        ensures { result ≡ buffer_busy self.now.config self.now.state n (buffer_of self.now.config (strand_number self.now.config.mode self.now.state.now.trace k + 1)) }
+    {
+        let config = self.config;
+        let buffer = (self.trace.strand_of(config.mode, k) + 1) % config.buffers;
+        buffer_busy(
+            &self.trace,
+            config.mode,
+            config.buffers,
+            &self.durable,
+            n,
+            buffer,
+            k,
+        )
+    }
+
+    // Whether item k of core n, the first of its queue, is dispatched, or why it waits.
+    fn item_turn(&self, n: u32, k: usize) -> Turn
+        requires within { k < length self.now.state.now.trace }
+        requires front { front self.now.config self.now.state n ≡ Some k }
+        ensures { result ≡ item_turn self.now.config self.now.state n (Some k) }
+    {
+        let config = self.config;
+        let event = self.trace.events()[k];
+        if event.is_persist() && self.ring_use(n, k) == config.ring {
+            return Turn::Bubble(Cause::NoRoom);
+        }
+        if event.is_new_strand() && self.buffer_busy(n, k) {
+            return Turn::Bubble(Cause::NotEmpty);
+        }
+        Turn::Done
+    }
+
+    // Core n dispatches its item k.
+    fn dispatch(&mut self, n: u32, k: usize)
+        requires room { self.old.made < self.old.steps }
+        requires core { n < length self.old.state.now.cores }
+        requires within { k < length self.old.state.now.trace }
+        requires front { front self.old.config self.old.state n ≡ Some k }
+        requires reached { IsReached self.old.config self.old.program (item_after self.old.state n (Some k)) }
+        ensures { self.new ≡ made_to self.old (item_after self.old.state n (Some k)) }
+    {
+        let persist = is_persist_at(self.trace.events(), k);
+        mark_item(&mut self.dispatched, &mut self.buffered, n, k, persist);
+        self.made += 1;
+    }
+
+    // Core n dispatches the first item of its queue.
+    pub(crate) fn step_dispatch(&mut self, n: u32) -> Turn
+        requires room { self.old.made < self.old.steps }
+        requires core { n < length self.old.state.now.cores }
+        ensures turn { result ≡ turn self.old.config self.old.program self.old.state (Dispatch n) }
+        ensures machine { self.new ≡ stepped self.old (Dispatch n) }
+    {
+        let Some(k) = self.front(n) else {
+            return self.bubble(Cause::NoItem);
+        };
+        let turn = self.item_turn(n, k);
+        if let Turn::Done = turn {
+            self.dispatch(n, k);
+        } else {
+            self.made += 1;
+        }
+        turn
+    }
+}
+
+// One more item of core n, event k, is dispatched, and buffered where it is a persist.
+fn mark_item(dispatched: &mut Vec<u32>, buffered: &mut Vec<bool>, n: u32, k: usize, persist: bool)
+    requires core { n < length dispatched.old.items }
+    requires few { slice_index dispatched.old.items n < 2 ^ 32 - 1 }
+    requires event { k < length buffered.old.items }
+    ensures dispatched { dispatched.new.items ≡ slice_set dispatched.old.items n (slice_index dispatched.old.items n + 1) }
+    ensures buffered { buffered.new.items ≡ (if persist then slice_set buffered.old.items k true else buffered.old.items) }
+    ensures room { vec_capacity buffered.new ≡ vec_capacity buffered.old }
+{
+    dispatched[n as usize] += 1;
+    if persist {
+        buffered[k] = true;
+    }
+}

@@ -1,0 +1,40 @@
+// Which events a core's queue carries.
+ghost use Rattle.std.specs.Prelude.{◌≡◌, ◌<◌, ◌&&◌, ◌==◌, length};
+ghost use Rattle.strand_events.specs.Trace.{event_is, core_of, is_persist};
+ghost use Rattle.strand_rules.specs.Cycle.{is_item};
+
+use strand_events::Event;
+use strand_inputs::Mode;
+
+// Whether a core's queue carries the event.
+pub(crate) fn is_item(mode: Mode, event: Event) -> bool
+    ensures { result ≡ is_item mode event }
+{
+    match mode {
+        Mode::Strict => event.is_persist(),
+        Mode::Epoch => event.is_persist() || event.is_barrier(),
+        Mode::Strand => event.is_persist() || event.is_barrier() || event.is_new_strand(),
+    }
+}
+
+// Whether event k is a persist.
+pub(crate) fn is_persist_at(events: &[Event], k: usize) -> bool
+    requires { k < length events.now }
+    ensures { result ≡ event_is is_persist events.now k }
+{
+    events[k].is_persist()
+}
+
+// Whether the event is an item of core n.
+pub(crate) fn is_core_item(mode: Mode, event: Event, n: u32) -> bool
+    ensures { result ≡ (is_item mode event && (core_of event == n)) }
+{
+    is_item(mode, event) && event.core() == n
+}
+
+// Whether the event is a persist of core n.
+pub(crate) fn is_core_persist(event: Event, n: u32) -> bool
+    ensures { result ≡ (is_persist event && (core_of event == n)) }
+{
+    event.is_persist() && event.core() == n
+}

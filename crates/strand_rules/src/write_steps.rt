@@ -1,0 +1,137 @@
+// The steps of the buffers and of the controller.
+ghost use Rattle.std.specs.Prelude.{◌≡◌, ◌<◌, ◌≤◌, ◌==◌, true, false, IfSome, Some, length, slice_get};
+ghost use Rattle.strand_events.specs.Trace.{event_is, is_persist};
+ghost use Rattle.strand_events.specs.Order.{held};
+ghost use Rattle.strand_inputs.specs.declared.step.Step.TheVariants.{Send, Write};
+ghost use Rattle.strand_rules.specs.Cycle.{turn, eligible, send_after, older_waits, request_of, write_after, IsReached};
+ghost use Rattle.strand_rules.specs.Machine.{stepped, made_to, Steps};
+
+use crate::PlainMachine;
+use crate::send_rules::{eligible_at, older_waits, persist_number, request};
+use crate::turn::{Cause, Turn};
+use strand_modules::{AtModule, ModuleBank};
+
+impl PlainMachine {
+    // The eligible persist of buffer b of core n at place j.
+    fn eligible_at(&self, n: u32, b: u32, j: u32) -> Option<usize>
+        ensures eligible { result ≡ slice_get (eligible self.now.config self.now.state n b) j }
+        ensures waits { IfSome result (λ p. held self.now.state.buffered p ≡ true) }
+    {
+        let config = self.config;
+        eligible_at(
+            &self.trace,
+            config.mode,
+            config.buffers,
+            &self.buffered,
+            &self.durable,
+            n,
+            b,
+            j,
+        )
+    }
+
+    // Whether as many requests are in flight as can be.
+    fn flight_full(&self) -> bool
+        ensures full { result ≡ (length self.now.state.flight == self.now.config.flight) }
+        ensures room { result ≡ false → length self.now.state.flight < self.now.config.flight }
+    {
+        let config = self.config;
+        self.flight.len() == config.flight as usize
+    }
+
+    // Persist p, which is buffered, is sent.
+    fn send(&mut self, p: usize)
+        requires room { self.old.made < self.old.steps }
+        requires flight { length self.old.state.flight < self.old.config.flight }
+        requires waits { held self.old.state.buffered p ≡ true }
+        requires reached { IsReached self.old.config self.old.program (send_after self.old.state (Some p)) }
+        ensures { self.new ≡ made_to self.old (send_after self.old.state (Some p)) }
+    {
+        self.buffered[p] = false;
+        self.flight.push_reserved(p as u32);
+        self.made += 1;
+    }
+
+    // Buffer b of core n sends its eligible persist at place j.
+    pub(crate) fn step_send(&mut self, n: u32, b: u32, j: u32) -> Turn
+        requires { self.old.made < self.old.steps }
+        ensures turn { result ≡ turn self.old.config self.old.program self.old.state (Send n b j) }
+        ensures machine { self.new ≡ stepped self.old (Send n b j) }
+    {
+        prove!(self.made < self.steps);
+        let Some(p) = self.eligible_at(n, b, j) else {
+            return self.bubble(Cause::NoEntry);
+        };
+        if self.flight_full() {
+            return self.bubble(Cause::FlightFull);
+        }
+        self.send(p);
+        Turn::Done
+    }
+
+    // The persist of the request at place j of those in flight.
+    fn request_at(&self, j: u32) -> Option<usize>
+        ensures request { result ≡ slice_get self.now.state.flight j }
+        ensures persist { IfSome result (λ p. event_is is_persist self.now.state.now.trace p ≡ true) }
+    {
+        let p = self.flight.get(j as usize)?;
+        Some(*p as usize)
+    }
+
+    // Whether an older request than the one at place j, of persist p, has its word.
+    fn older_waits(&self, j: u32, p: usize) -> bool
+        requires request { slice_get self.now.state.flight j ≡ Some p }
+        requires persist { event_is is_persist self.now.state.now.trace p ≡ true }
+        ensures { result ≡ older_waits self.now.state j p }
+    {
+        older_waits(self.trace.events(), &self.flight, j as usize, p)
+    }
+
+    // What the request of persist p stores, and where.
+    fn request(&self, p: usize) -> (u64, u64)
+        requires { event_is is_persist self.now.state.now.trace p ≡ true }
+        ensures place { result.0 ≡ (request_of self.now.state p).place }
+        ensures value { result.1 ≡ (request_of self.now.state p).value }
+        ensures inside { result.0 < self.now.program.sizes.persistent }
+    {
+        request(self.trace.events(), p)
+    }
+
+    // Persist p, of the request at place j, is durable.
+    fn write(&mut self, j: u32, p: usize)
+        requires room { self.old.made < self.old.steps }
+        requires request { slice_get self.old.state.flight j ≡ Some p }
+        requires persist { event_is is_persist self.old.state.now.trace p ≡ true }
+        requires reached { IsReached self.old.config self.old.program (write_after self.old.state j (Some p)) }
+        ensures { self.new ≡ made_to self.old (write_after self.old.state j (Some p)) }
+    {
+        let number = persist_number(self.trace.events(), p);
+        self.flight.remove(j as usize);
+        self.durable[p] = true;
+        self.persisted[number] = true;
+        self.made += 1;
+    }
+
+    // The bank stores the request at place j, unless an older one has its word.
+    pub(crate) fn step_write(&mut self, j: u32, bank: &mut ModuleBank) -> Turn
+        requires room { self.old.made < self.old.steps }
+        requires bank { self.old.program.sizes.persistent ≤ bank.old.size }
+        ensures { Steps self.old self.new bank.old bank.new (Write j) result }
+    {
+        prove!(self.made < self.steps);
+        let Some(p) = self.request_at(j) else {
+            return self.bubble(Cause::NoEntry);
+        };
+        if self.older_waits(j, p) {
+            return self.bubble(Cause::OlderWaits);
+        }
+        let (place, value) = self.request(p);
+        match bank.store(place, value) {
+            Ok(()) => {
+                self.write(j, p);
+                Turn::Done
+            }
+            Err(AtModule { module }) => Turn::Fault { module },
+        }
+    }
+}

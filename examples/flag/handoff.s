@@ -1,0 +1,34 @@
+# Core 0 makes data and raises a flag in volatile memory. Core 1 waits for the flag and notes in persistent
+# memory that the data is there. After a crash the flag is gone; recovery trusts the note.
+
+.entry writer
+.entry reader
+
+writer:
+    la x2, data
+    la x3, flag
+    li x5, 0x11
+    sd x5, 0(x2)         # the data
+    persistbarrier       # the data, before the flag
+    li x6, 1
+    sd x6, 0(x3)         # the flag
+    ebreak
+
+reader:
+    la x2, data
+    la x3, flag
+wait:
+    ld x6, 0(x3)
+    beq x6, x0, wait
+    persistbarrier       # the flag as it was seen, before the note
+    sd x6, 8(x2)         # the note
+    joinstrand
+    ebreak
+
+.volatile
+flag:
+    .word 0
+.persist
+data:
+    .word 0
+    .word 0              # the note
