@@ -91,9 +91,11 @@ impl PlainMachine {
         self.made
     }
 
-    /// What the cores did so far. Its persists are to the persistent words of the image.
+    /// What the cores did so far, with room for all steps. Its persists are to the persistent words of the
+    /// image.
     pub fn trace(&self) -> &Trace
         ensures events { result.now.events ≡ self.now.state.now.trace }
+        ensures room { result.now.room ≡ self.now.steps }
         ensures placed { LieIn result.now.events self.now.program.sizes.persistent }
     {
         &self.trace
