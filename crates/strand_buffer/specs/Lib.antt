@@ -1,0 +1,5 @@
+pub mod Entries
+pub mod Links
+pub mod Ring
+pub mod Buffers
+pub mod KeptBuffers

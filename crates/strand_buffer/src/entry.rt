@@ -1,0 +1,38 @@
+/// How far a persist in a buffer has come.
+#[derive(Clone, Copy, Debug, PartialEq, Eq)]
+pub enum Stage {
+    /// It waits to be sent.
+    Buffered,
+    /// It was sent, and isn't durable yet.
+    Sent,
+    /// It is durable.
+    Released,
+}
+
+/// A persist in a buffer, as contracts see it.
+#[derive(Clone, Copy, Debug, PartialEq, Eq)]
+pub struct Entry {
+    /// Its number among the persists of the run.
+    pub number: u32,
+    /// Its word, named by the address of its first byte.
+    pub word: u64,
+    /// The value that it leaves in the word.
+    pub value: u64,
+    /// Its epoch, a number within its strand.
+    pub epoch: u32,
+    /// How far it has come.
+    pub stage: Stage,
+}
+
+/// A persist that may be sent.
+#[derive(Clone, Copy, Debug, PartialEq, Eq)]
+pub struct Slot {
+    /// Its place in its buffer, counted from the oldest persist there that isn't durable.
+    pub place: u32,
+    /// Its number among the persists of the run.
+    pub number: u32,
+    /// Its word, named by the address of its first byte.
+    pub word: u64,
+    /// The value that it leaves in the word.
+    pub value: u64,
+}

@@ -1,0 +1,73 @@
+// A pass over the entries of a buffer, the oldest first.
+ghost use Rattle.std.specs.Prelude.{◌≡◌, ◌<◌, ◌≤◌, ◌-◌, ◌==◌, false, nat_le, length, slice_get, slice_index_or, IfSome, if◌then◌else◌};
+ghost use Rattle.strand_buffer.specs.Entries.{epoch_at, is_buffered, entry_is, word_waits, is_eligible, eligible_places};
+ghost use Rattle.strand_buffer.specs.Links.{AreLinked};
+ghost use Rattle.strand_buffer.specs.Ring.{IsRing};
+
+use crate::{Entry, Stage};
+
+// Whether entry i waits to be sent.
+fn is_buffered(entries: &[Entry], i: usize) -> bool
+    requires { i < length entries.now }
+    ensures { result ≡ entry_is is_buffered entries.now i }
+{
+    match entries[i].stage {
+        Stage::Buffered => true,
+        Stage::Sent | Stage::Released => false,
+    }
+}
+
+// Whether entry i is of the oldest entry's epoch.
+fn is_lowest(entries: &[Entry], i: usize) -> bool
+    requires { i < length entries.now }
+    ensures { result ≡ (epoch_at entries.now i == epoch_at entries.now 0) }
+{
+    entries[i].epoch == entries[0].epoch
+}
+
+// Whether an entry that waits has entry i's word and stands before it: what was found of the latest
+// earlier entry of that word, so far back.
+fn waits_before(waits: &[bool; 64], i: usize, distance: u32) -> bool
+    requires some { 0 < distance }
+    requires within { i < 64 }
+    ensures { result
+        ≡ (if nat_le distance i then slice_index_or waits.now (i - distance) false else false) }
+{
+    let distance = distance as usize;
+    distance <= i && waits[i - distance]
+}
+
+// Whether entry i may be sent, where it is known whether an earlier one of its word waits.
+#[tactic(auto, using(crate::proofs::Lowest::eligible_lowest))]
+fn is_eligible(entries: &[Entry], i: usize, blocked: bool) -> bool
+    requires ring { IsRing entries.now }
+    requires within { i < length entries.now }
+    requires blocked { blocked ≡ word_waits entries.now i }
+    ensures { result ≡ is_eligible entries.now i }
+{
+    is_buffered(entries, i) && is_lowest(entries, i) && !blocked
+}
+
+// The place of the eligible entry that has so many of them before it. One turn an entry: whether an
+// entry that waits has a word is kept for each entry passed, and found again by its link.
+pub(crate) fn eligible_at(entries: &[Entry], links: &[u32], j: u32) -> Option<usize>
+    requires ring { IsRing entries.now }
+    requires linked { AreLinked entries.now links.now }
+    requires few { length entries.now ≤ 64 }
+    ensures place { result ≡ slice_get (eligible_places entries.now) j }
+    ensures within { IfSome result (λ i. i < length entries.now) }
+{
+    let mut waits = [false; 64];
+    let mut passed: u32 = 0;
+    for i in 0..entries.len() {
+        let blocked = waits_before(&waits, i, links[i]);
+        if is_eligible(entries, i, blocked) {
+            if passed == j {
+                return Some(i);
+            }
+            passed += 1;
+        }
+        waits[i] = is_buffered(entries, i) || blocked;
+    }
+    None
+}
