@@ -1,0 +1,10 @@
+pub mod Accesses
+pub mod Hits
+pub mod Lists
+pub mod Totals
+pub mod Changes
+pub mod Seen
+pub mod Copies
+pub mod Backing
+pub mod Coherence
+pub mod Whole

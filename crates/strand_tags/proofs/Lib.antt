@@ -1,0 +1,4 @@
+pub mod Noting
+pub mod Leading
+pub mod Longer
+pub mod Waiting

@@ -1,0 +1,273 @@
+-- The tags with one access more answer for the list with it at its end.
+use Rattle.std.proofs.Common.{◌≡◌, ℕ, ◌+◌, ◌*◌, ◌<◌, ◌≤◌, true, false, ◌&&◌, ◌||◌, inl, inr, List, [], ◌∷◌, ◌++◌, length, refl, sym, ap, subst, ◌∙◌, arith}
+use Rattle.std.proofs.lemmas.Nat.{same_from_place, rows}
+use Rattle.std.proofs.lemmas.List.{length-set, get_or-set_same, get_or-set_other}
+use Rattle.std.specs.Prelude.{max, ◌-◌, ◌/◌, slice_index, slice_index_or, slice_set, not, ◌==◌, if◌then◌else◌}
+use Rattle.std.proofs.lemmas.Bool.{cases_eq, cases_Bool, or_parts, or_cases, and_parts, both_ways, false≢true, cases_lt, eq-eqb, ne_eqb, lt-ltb, le-ltb}
+use Rattle.strand_exec.specs.Core.{Extents, volatile_base, persistent_base}
+use Rattle.strand_exec.specs.Plan.{IsWord}
+use Rattle.strand_tags.specs.declared.mark.Mark.{Mark}
+use Rattle.strand_tags.specs.Access.{Access, Noted, opposes, part, covered}
+use Rattle.strand_tags.specs.Marks.{no_mark, whole, without, marked}
+use Rattle.strand_tags.specs.TagsSeen.{TagsSeen, AreBehind, AreKept, CanAsk, StandFor, word_place, slot, mark_in, conflicting, told, answer, with_access, noted}
+
+pub covered_push : (c : ℕ) (b : Access) (ns : List Noted) (n : Noted) → covered c b (ns ++ n ∷ []) ≡ max (covered c b ns) (part c b n)
+covered_push c b [] n = omega arith
+covered_push c b (x ∷ ns) n = omega (arith, covered_push c b ns n)
+
+-- whatever the strand, a mark's whole is the greatest of what was noted
+pub whole_marked : (m : Mark) (s k : ℕ) → whole (marked m s k) ≡ max (whole m) k
+whole_marked m s k = elim (cases_eq m.strand s) [ inl e ↦ rw (eq-eqb m.strand s e) (omega arith) | inr ne ↦ rw (ne_eqb m.strand s ne) (omega arith) ]
+
+-- an access of the strand itself adds nothing for its own strand
+pub without_same : (m : Mark) (s k : ℕ) → without (marked m s k) s ≡ without m s
+without_same m s k = elim (cases_eq m.strand s) [ inl e ↦ rw (eq-eqb m.strand s e, eq-eqb m.strand s e) refl | inr ne ↦ rw (ne_eqb m.strand s ne, eq-eqb s s refl) refl ]
+
+-- and it adds its count for a later one
+pub without_later : (m : Mark) (s k t : ℕ) → m.strand ≤ s → s < t → without (marked m s k) t ≡ max (without m t) k
+without_later m s k t le lt =
+    let apart : m.strand ≡ t → ⊥ = λ e. omega (arith, e) in
+    elim (cases_eq m.strand s) [
+      | inl e ↦ rw (eq-eqb m.strand s e, ne_eqb m.strand t apart) (omega arith)
+      | inr ne ↦ let later : s ≡ t → ⊥ = λ e. omega (arith, e) in rw (ne_eqb m.strand s ne, ne_eqb s t later, ne_eqb m.strand t apart) (omega arith)
+    ]
+
+-- what a mark of core c tells of access b, once an access of c was noted
+told_marked : (m : Mark) (b : Access) (c s k : ℕ) → m.strand ≤ s → (c ≡ b.core → s ≤ b.strand)
+    → told (marked m s k) b c ≡ max (told m b c) (if not ((c == b.core) && (s == b.strand)) then k else 0)
+told_marked m b c s k le order = elim (cases_eq c b.core) [
+  | inr other ↦ rw (ne_eqb c b.core other) (whole_marked m s k)
+  | inl own ↦ elim (cases_eq s b.strand) [
+    | inl same ↦ rw (eq-eqb c b.core own, eq-eqb s b.strand same) (
+        let now : without (marked m s k) b.strand ≡ without m b.strand = ap (without (marked m s k)) (sym same) ∙ without_same m s k ∙ ap (without m) same in
+        omega (arith, now))
+    | inr later ↦ rw (eq-eqb c b.core own, ne_eqb s b.strand later) (without_later m s k b.strand le (let most = order own in grind arith))
+  ]
+]
+
+-- two data words at one place are one
+pub same_word : (x : Extents) (w v : ℕ) → x.volatile ≤ 1048576 → IsWord x w → IsWord x v → word_place x w ≡ word_place x v → w ≡ v
+same_word x w v few (at, inl low) (at', inl low') e = let e' : (w - volatile_base) / 8 ≡ (v - volatile_base) / 8 = rw (lt-ltb w persistent_base (omega (arith, low.1, few)), lt-ltb v persistent_base (omega (arith, low'.1, few))) at e in omega (arith, e', at, at', low.0, low'.0)
+same_word x w v few (at, inl low) (at', inr high') e = let e' : (w - volatile_base) / 8 ≡ x.volatile + (v - persistent_base) / 8 = rw (lt-ltb w persistent_base (omega (arith, low.1, few)), le-ltb v persistent_base high'.0) at e in absurd (omega (arith, e', low.0, low.1))
+same_word x w v few (at, inr high) (at', inl low') e = let e' : x.volatile + (w - persistent_base) / 8 ≡ (v - volatile_base) / 8 = rw (le-ltb w persistent_base high.0, lt-ltb v persistent_base (omega (arith, low'.1, few))) at e in absurd (omega (arith, e', low'.0, low'.1))
+same_word x w v few (at, inr high) (at', inr high') e = let e' : x.volatile + (w - persistent_base) / 8 ≡ x.volatile + (v - persistent_base) / 8 = rw (le-ltb w persistent_base high.0, le-ltb v persistent_base high'.0) at e in omega (arith, e', at, at', high.0, high'.0)
+
+-- each data word has a place
+pub word_within : (x : Extents) (w : ℕ) → x.volatile ≤ 1048576 → IsWord x w → word_place x w < x.volatile + x.persistent
+word_within x w few (at, inl low) = rw (lt-ltb w persistent_base (omega (arith, low.1, few))) (omega (arith, low.0, low.1))
+word_within x w few (at, inr high) = rw (le-ltb w persistent_base high.0) (omega (arith, high.0, high.1))
+
+-- so each mark has one
+pub slot_within : (tags : TagsSeen) (core w count : ℕ) → tags.extents.volatile ≤ 1048576 → core < length tags.strands → IsWord tags.extents w
+    → count ≡ (tags.extents.volatile + tags.extents.persistent) * length tags.strands → slot tags core w < count
+slot_within tags core w count few lt is e = let within = word_within tags.extents w few is in grind (arith, rows)
+
+answer_in : (tags : TagsSeen) (b : Access) (c : ℕ) → c < length tags.strands → answer tags b c ≡ told (conflicting tags b c) b c
+answer_in tags b c lt = rw (lt-ltb c (length tags.strands) lt) refl
+
+answer_out : (tags : TagsSeen) (b : Access) (c : ℕ) → length tags.strands ≤ c → answer tags b c ≡ 0
+answer_out tags b c le = rw (le-ltb c (length tags.strands) le) refl
+
+marked_strand : (m : Mark) (s k : ℕ) → (marked m s k).strand ≡ s
+marked_strand m s k = elim (cases_eq m.strand s) [ inl e ↦ rw (eq-eqb m.strand s e) e | inr ne ↦ rw (ne_eqb m.strand s ne) refl ]
+
+module _ (tags : TagsSeen) (n : Noted) (kept : AreKept tags) (may : CanAsk tags n.access) where
+  slot_kept : (core w : ℕ) → slot (noted tags n) core w ≡ slot tags core w
+  slot_kept core w = ap (λ k. word_place tags.extents w * k + core) (length-set tags.strands n.access.core n.access.strand)
+
+  slot_apart : (core w : ℕ) → core < length tags.strands → IsWord tags.extents w → slot tags core w ≡ slot tags n.access.core n.access.word → (core ≡ n.access.core) × (w ≡ n.access.word)
+  slot_apart core w lt is e =
+      let parts = same_from_place (word_place tags.extents w) core (word_place tags.extents n.access.word) n.access.core (length tags.strands) lt may.core e in
+      (parts.1, same_word tags.extents w n.access.word kept.volatile is may.word parts.0)
+
+  mark_here : (marks : List Mark) → slot tags n.access.core n.access.word < length marks
+      → mark_in (with_access marks tags n) (noted tags n) n.access.core n.access.word ≡ marked (mark_in marks tags n.access.core n.access.word) n.access.strand n.made
+  mark_here marks lt = ap (λ i. slice_index_or (with_access marks tags n) i no_mark) (slot_kept n.access.core n.access.word)
+      ∙ get_or-set_same marks (slot tags n.access.core n.access.word) (marked (mark_in marks tags n.access.core n.access.word) n.access.strand n.made) no_mark lt
+
+  mark_other : (marks : List Mark) (core w : ℕ) → core < length tags.strands → IsWord tags.extents w → ((core ≡ n.access.core) × (w ≡ n.access.word) → ⊥)
+      → mark_in (with_access marks tags n) (noted tags n) core w ≡ mark_in marks tags core w
+  mark_other marks core w lt is other = ap (λ i. slice_index_or (with_access marks tags n) i no_mark) (slot_kept core w)
+      ∙ get_or-set_other marks (slot tags n.access.core n.access.word) (slot tags core w) (marked (mark_in marks tags n.access.core n.access.word) n.access.strand n.made) no_mark (λ e. other (slot_apart core w lt is e))
+
+  mark_kept : (marks : List Mark) (core w : ℕ) → mark_in marks (noted tags n) core w ≡ mark_in marks tags core w
+  mark_kept marks core w = ap (λ i. slice_index_or marks i no_mark) (slot_kept core w)
+
+  -- the mark that is asked, where it is none of the noted access
+  conflicting_other : (b : Access) (c : ℕ) → c < length tags.strands → IsWord tags.extents b.word → ((c ≡ n.access.core) × (b.word ≡ n.access.word) → ⊥) → conflicting (noted tags n) b c ≡ conflicting tags b c
+  conflicting_other b c lt is other = elim (cases_Bool b.write) [
+    | inl w ↦ rw w (mark_other tags.accesses c b.word lt is other)
+    | inr r ↦ elim (cases_Bool n.access.write) [
+      | inl w ↦ rw (r, w) (mark_other tags.stores c b.word lt is other)
+      | inr l ↦ rw (r, l) (mark_kept tags.stores c b.word)
+    ]
+  ]
+
+  -- a load changes nothing for loads
+  conflicting_kept : (b : Access) (c : ℕ) → (n.access.write || b.write) ≡ false → conflicting (noted tags n) b c ≡ conflicting tags b c
+  conflicting_kept b c none = let parts = or_parts n.access.write b.write none in rw (parts.1, parts.0) (mark_kept tags.stores c b.word)
+
+  conflicting_here : (b : Access) (c : ℕ) → c ≡ n.access.core → b.word ≡ n.access.word → (n.access.write || b.write) ≡ true
+      → conflicting (noted tags n) b c ≡ marked (conflicting tags b c) n.access.strand n.made
+  conflicting_here b c e e' one = rw (e, e') (elim (cases_Bool b.write) [
+    | inl w ↦ rw w (mark_here tags.accesses (slot_within tags n.access.core n.access.word (length tags.accesses) kept.volatile may.core may.word kept.accesses))
+    | inr r ↦
+        let w : n.access.write ≡ true = elim (or_cases n.access.write b.write one) [ inl w ↦ w | inr w ↦ absurd (false≢true (sym r ∙ w)) ] in
+        rw (r, w) (mark_here tags.stores (slot_within tags n.access.core n.access.word (length tags.stores) kept.volatile may.core may.word kept.stores))
+  ])
+
+  part_other : (b : Access) (c : ℕ) → ((c ≡ n.access.core) × (b.word ≡ n.access.word) → ⊥) → part c b n ≡ 0
+  part_other b c other = elim (cases_eq n.access.core c) [
+    | inr ne ↦ rw (ne_eqb n.access.core c ne) refl
+    | inl e ↦ let apart : n.access.word ≡ b.word → ⊥ = λ e'. other (sym e, sym e') in rw (eq-eqb n.access.core c e, ne_eqb n.access.word b.word apart) refl
+  ]
+
+  part_load : (b : Access) (c : ℕ) → (n.access.write || b.write) ≡ false → part c b n ≡ 0
+  part_load b c none = elim (cases_Bool ((n.access.core == c) && opposes n.access b)) [
+    | inr no_ ↦ rw no_ refl
+    | inl yes_ ↦ absurd (both_ways (n.access.write || b.write) none
+        ((and_parts (n.access.word == b.word) (n.access.write || b.write) (and_parts ((n.access.word == b.word) && (n.access.write || b.write)) (not ((n.access.core == b.core) && (n.access.strand == b.strand))) (and_parts (n.access.core == c) (opposes n.access b) yes_).1).0).1))
+  ]
+
+  part_here : (b : Access) (c : ℕ) → c ≡ n.access.core → b.word ≡ n.access.word → (n.access.write || b.write) ≡ true
+      → part c b n ≡ if not ((c == b.core) && (n.access.strand == b.strand)) then n.made else 0
+  part_here b c e e' one = rw (e, e', one, eq-eqb n.access.core n.access.core refl, eq-eqb n.access.word n.access.word refl) refl
+
+  behind : (b : Access) (c : ℕ) → c ≡ n.access.core → (conflicting tags b c).strand ≤ n.access.strand
+  behind b c e = rw e (
+      let stores = kept.stores_behind (word_place tags.extents b.word) n.access.core may.core in
+      let accesses = kept.accesses_behind (word_place tags.extents b.word) n.access.core may.core in
+      let latest = may.strand in
+      elim (cases_Bool b.write) [ inl w ↦ rw w (omega (arith, accesses, latest)) | inr r ↦ rw r (omega (arith, stores, latest)) ])
+
+  -- no later strand was noted of an asked core than before
+  asked_order : (b : Access) (c : ℕ) → c ≡ n.access.core → CanAsk (noted tags n) b → c ≡ b.core → n.access.strand ≤ b.strand
+  asked_order b c e ask own =
+      let now : slice_index (noted tags n).strands b.core ≡ n.access.strand = ap (slice_index (noted tags n).strands) (sym own ∙ e) ∙ get_or-set_same tags.strands n.access.core n.access.strand 0 may.core in
+      omega (arith, ask.strand, now)
+
+  cores_kept : length (noted tags n).strands ≡ length tags.strands
+  cores_kept = length-set tags.strands n.access.core n.access.strand
+
+  -- an access that isn't asked for changes no answer
+  answer_kept : (b : Access) (c : ℕ) → c < length tags.strands → conflicting (noted tags n) b c ≡ conflicting tags b c → part c b n ≡ 0
+      → answer (noted tags n) b c ≡ max (answer tags b c) (part c b n)
+  answer_kept b c lt same none =
+      let now : answer (noted tags n) b c ≡ answer tags b c = answer_in (noted tags n) b c (omega (arith, lt, cores_kept)) ∙ ap (λ (m : Mark). told m b c) same ∙ sym (answer_in tags b c lt) in
+      omega (arith, now, none)
+
+  -- each answer is the greater of the old one and of what the access adds
+  pub answer_noted : (b : Access) (c : ℕ) → CanAsk (noted tags n) b → answer (noted tags n) b c ≡ max (answer tags b c) (part c b n)
+  answer_noted b c ask = elim (cases_lt c (length tags.strands)) [
+    | inr le ↦
+        let none : part c b n ≡ 0 = part_other b c (λ e. omega (arith, e.0, may.core, le)) in
+        omega (arith, answer_out (noted tags n) b c (omega (arith, le, cores_kept)), answer_out tags b c le, none)
+    | inl lt ↦ elim (cases_eq c n.access.core) [
+      | inr ne ↦ let other : (c ≡ n.access.core) × (b.word ≡ n.access.word) → ⊥ = λ e. ne e.0 in answer_kept b c lt (conflicting_other b c lt ask.word other) (part_other b c other)
+      | inl e ↦ elim (cases_eq b.word n.access.word) [
+        | inr ne ↦ let other : (c ≡ n.access.core) × (b.word ≡ n.access.word) → ⊥ = λ e. ne e.1 in answer_kept b c lt (conflicting_other b c lt ask.word other) (part_other b c other)
+        | inl e' ↦ elim (cases_Bool (n.access.write || b.write)) [
+          | inr none ↦ answer_kept b c lt (conflicting_kept b c none) (part_load b c none)
+          | inl one ↦
+              answer_in (noted tags n) b c (omega (arith, lt, cores_kept))
+              ∙ ap (λ (m : Mark). told m b c) (conflicting_here b c e e' one)
+              ∙ told_marked (conflicting tags b c) b c n.access.strand n.made (behind b c e) (asked_order b c e ask)
+              ∙ ap (λ k. max (told (conflicting tags b c) b c) k) (sym (part_here b c e e' one))
+              ∙ ap (λ k. max k (part c b n)) (sym (answer_in tags b c lt))
+        ]
+      ]
+    ]
+  ]
+
+  -- what can be asked afterwards could be asked before
+  asked_before : (b : Access) → CanAsk (noted tags n) b → CanAsk tags b
+  asked_before b ask = record {
+    core = omega (arith, ask.core, cores_kept);
+    word = ask.word;
+    strand = elim (cases_eq b.core n.access.core) [
+      | inl e ↦ (let most = asked_order b b.core e ask refl in rw e (omega (arith, most, may.strand)))
+      | inr ne ↦ (let same : slice_index (noted tags n).strands b.core ≡ slice_index tags.strands b.core = get_or-set_other tags.strands n.access.core b.core n.access.strand 0 ne in omega (arith, ask.strand, same))
+    ];
+    small = ask.small;
+  }
+
+  -- the law of noting: whatever list the tags stood for, they stand for that list with the access at its end
+  pub stand_noted : (ns : List Noted) → StandFor tags ns → StandFor (noted tags n) (ns ++ n ∷ [])
+  stand_noted ns stand b ask c = answer_noted b c ask ∙ ap (λ k. max k (part c b n)) (stand b (asked_before b ask) c) ∙ sym (covered_push c b ns n)
+
+  -- the greatest strand of a core doesn't fall
+  strand_raised : (core : ℕ) → slice_index tags.strands core ≤ slice_index (noted tags n).strands core
+  strand_raised core = elim (cases_eq core n.access.core) [
+    | inl e ↦ rw e (omega (arith, may.strand, get_or-set_same tags.strands n.access.core n.access.strand 0 may.core))
+    | inr ne ↦ omega (arith, get_or-set_other tags.strands n.access.core core n.access.strand 0 ne)
+  ]
+
+  behind_kept : (marks : List Mark) → AreBehind marks tags.strands → AreBehind marks (noted tags n).strands
+  behind_kept marks old place core lt = let raised = strand_raised core in let before = old place core (omega (arith, lt, cores_kept)) in rw cores_kept (omega (arith, before, raised))
+
+  behind_noted : (marks : List Mark) → slot tags n.access.core n.access.word < length marks → AreBehind marks tags.strands → AreBehind (with_access marks tags n) (noted tags n).strands
+  behind_noted marks inside old place core lt =
+      let lt' : core < length tags.strands = omega (arith, lt, cores_kept) in
+      let new = marked (mark_in marks tags n.access.core n.access.word) n.access.strand n.made in
+      rw cores_kept (elim (cases_eq (place * length tags.strands + core) (slot tags n.access.core n.access.word)) [
+        | inl e ↦
+            let parts = same_from_place place core (word_place tags.extents n.access.word) n.access.core (length tags.strands) lt' may.core e in
+            let now : slice_index (noted tags n).strands core ≡ n.access.strand = ap (slice_index (noted tags n).strands) parts.1 ∙ get_or-set_same tags.strands n.access.core n.access.strand 0 may.core in
+            let at : (slice_index_or (with_access marks tags n) (place * length tags.strands + core) no_mark).strand ≡ n.access.strand =
+            ap (λ i. (slice_index_or (with_access marks tags n) i no_mark).strand) e ∙ ap (λ (m : Mark). m.strand) (get_or-set_same marks (slot tags n.access.core n.access.word) new no_mark inside) ∙ marked_strand (mark_in marks tags n.access.core n.access.word) n.access.strand n.made in
+            omega (arith, now, at)
+        | inr ne ↦
+            let at : (slice_index_or (with_access marks tags n) (place * length tags.strands + core) no_mark).strand ≡ (slice_index_or marks (place * length tags.strands + core) no_mark).strand =
+            ap (λ (m : Mark). m.strand) (get_or-set_other marks (slot tags n.access.core n.access.word) (place * length tags.strands + core) new no_mark ne) in
+            omega (arith, at, old place core lt', strand_raised core)
+      ])
+
+  inside : (marks : List Mark) → length marks ≡ (tags.extents.volatile + tags.extents.persistent) * length tags.strands → slot tags n.access.core n.access.word < length marks
+  inside marks size = slot_within tags n.access.core n.access.word (length marks) kept.volatile may.core may.word size
+
+  size_kept : (marks : List Mark) → length marks ≡ (tags.extents.volatile + tags.extents.persistent) * length tags.strands
+      → length marks ≡ (tags.extents.volatile + tags.extents.persistent) * length (noted tags n).strands
+  size_kept marks size = rw cores_kept size
+
+  size_noted : (marks : List Mark) → length marks ≡ (tags.extents.volatile + tags.extents.persistent) * length tags.strands
+      → length (with_access marks tags n) ≡ (tags.extents.volatile + tags.extents.persistent) * length (noted tags n).strands
+  size_noted marks size = length-set marks (slot tags n.access.core n.access.word) (marked (mark_in marks tags n.access.core n.access.word) n.access.strand n.made) ∙ size_kept marks size
+
+  pub kept_noted : AreKept (noted tags n)
+  kept_noted = record {
+    few = omega (arith, kept.few, cores_kept);
+    volatile = kept.volatile;
+    persistent = kept.persistent;
+    made = length-set tags.made n.access.core n.made ∙ kept.made ∙ sym cores_kept;
+    stores = elim (cases_Bool n.access.write) [ inl w ↦ rw w (size_noted tags.stores kept.stores) | inr r ↦ rw r (size_kept tags.stores kept.stores) ];
+    accesses = size_noted tags.accesses kept.accesses;
+    stores_behind = elim (cases_Bool n.access.write) [ inl w ↦ rw w (behind_noted tags.stores (inside tags.stores kept.stores) kept.stores_behind) | inr r ↦ rw r (behind_kept tags.stores kept.stores_behind) ];
+    accesses_behind = behind_noted tags.accesses (inside tags.accesses kept.accesses) kept.accesses_behind;
+  }
+
+same_tags : (x x' : Extents) (strands strands' made made' : List ℕ) (stores stores' accesses accesses' : List Mark) → x ≡ x' → strands ≡ strands' → made ≡ made' → stores ≡ stores' → accesses ≡ accesses'
+    → record { extents = x; strands = strands; made = made; stores = stores; accesses = accesses } ≡ (let to : TagsSeen = record { extents = x'; strands = strands'; made = made'; stores = stores'; accesses = accesses' } in to)
+same_tags x x' strands strands' made made' stores stores' accesses accesses' e1 e2 e3 e4 e5 = rw (e1, e2, e3, e4, e5) refl
+
+-- the same for tags that are the noted ones field by field
+module _ (t u : TagsSeen) (n : Noted) (strands : u.strands ≡ slice_set t.strands n.access.core n.access.strand) (made : u.made ≡ slice_set t.made n.access.core n.made)
+    (stores : u.stores ≡ if n.access.write then with_access t.stores t n else t.stores) (accesses : u.accesses ≡ with_access t.accesses t n) (extents : u.extents ≡ t.extents) where
+  pub is_noted : u ≡ noted t n
+  is_noted = same_tags u.extents t.extents u.strands (noted t n).strands u.made (noted t n).made u.stores (noted t n).stores u.accesses (noted t n).accesses extents strands made stores accesses
+
+  pub kept_as : AreKept t → CanAsk t n.access → AreKept u
+  kept_as kept may = subst AreKept (sym is_noted) (kept_noted t n kept may)
+
+  pub stand_as : AreKept t → CanAsk t n.access → (ns : List Noted) → StandFor t ns → StandFor u (ns ++ n ∷ [])
+  stand_as kept may ns stand = subst (λ (x : TagsSeen). StandFor x (ns ++ n ∷ [])) (sym is_noted) (stand_noted t n kept may ns stand)
+
+-- a loop over the cores, one core on
+pub one_answer : (tags : TagsSeen) (b : Access) (counts : List ℕ) (c : ℕ) → c < length counts → ((k : ℕ) → k < c → slice_index counts k ≡ answer tags b k) → ((k : ℕ) → c ≤ k → slice_index counts k ≡ 0)
+    → ((k : ℕ) → k < c + 1 → slice_index (slice_set counts c (answer tags b c)) k ≡ answer tags b k) × ((k : ℕ) → c + 1 ≤ k → slice_index (slice_set counts c (answer tags b c)) k ≡ 0)
+one_answer tags b counts c lt below above = (
+  λ k le. elim (cases_eq k c) [
+    | inl e ↦ rw e (get_or-set_same counts c (answer tags b c) 0 lt)
+    | inr ne ↦ get_or-set_other counts c k (answer tags b c) 0 ne ∙ below k (grind arith)
+  ],
+  λ k le. let ne : k ≡ c → ⊥ = λ e. omega (arith, e, le) in get_or-set_other counts c k (answer tags b c) 0 ne ∙ above k (omega (arith, le)),
+)

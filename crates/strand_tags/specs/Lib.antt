@@ -1,0 +1,5 @@
+pub mod Access
+pub mod Traces
+pub mod Marks
+pub mod TagsSeen
+pub mod Kept

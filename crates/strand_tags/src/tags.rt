@@ -1,0 +1,163 @@
+ghost use Rattle.std.specs.Prelude.{◌≡◌, ◌<◌, ◌≤◌, ◌++◌, [], ◌∷◌, ℕ, IfOk, List, length, replicate, slice_index, slice_index_or, slice_set, if◌then◌else◌};
+ghost use Rattle.strand_exec.specs.Plan.{IsWord};
+ghost use Rattle.strand_tags.specs.Access.{access, covered, noted_as, Noted};
+ghost use Rattle.strand_tags.specs.Marks.{marked, no_mark};
+ghost use Rattle.strand_tags.specs.TagsSeen.{answer, CanAsk, slot, StandFor};
+
+use crate::count_vector::CountVector;
+use crate::mark::{Mark, NO_MARK};
+use std::alloc::Global;
+use std::marker::Model;
+use strand_base::OutOfMemory;
+use strand_exec::{PERSISTENT_BASE, Sizes, VOLATILE_BASE};
+
+/// What the accesses that were noted make a later access wait for. Up to eight cores access the data
+/// words of the two regions. The tags keep no list of the accesses: two marks of 12 bytes a word and
+/// core, whose room `new` takes, and per core the latest strand and how many persists it had made.
+#[derive(Debug, Drop)]
+pub struct Tags {
+    sizes: Sizes,
+    strands: Vec<u32>,
+    made: Vec<u32>,
+    stores: Vec<Mark>,
+    accesses: Vec<Mark>,
+}
+
+impl Model for Tags {
+    ghost use Rattle.strand_tags.specs.TagsSeen.{TagsSeen, AreKept};
+
+    ghost Value = { TagsSeen };
+
+    ghost use Rattle.strand_tags.specs.Kept.{seen};
+
+    ghost view = { seen };
+
+    ghost invariant = { λ t. AreKept (seen t) };
+}
+
+impl Tags {
+    /// The tags of so many cores and of the words of the regions, with no access noted. Only this call
+    /// takes memory: 24 bytes for each word and core.
+    pub fn new(alloc: Global, cores: u32, sizes: Sizes) -> Result<Tags, OutOfMemory>
+        requires { cores ≤ 8 }
+        ensures extents { IfOk result (λ t. t.extents ≡ sizes) }
+        ensures strands { IfOk result (λ t. t.strands ≡ replicate cores 0) }
+        ensures made { IfOk result (λ t. t.made ≡ replicate cores 0) }
+        ensures stands { IfOk result (λ t. StandFor t []) }
+    {
+        let count = (sizes.volatile as usize + sizes.persistent as usize) * cores as usize;
+        Ok(Tags {
+            sizes,
+            strands: zeros(alloc, cores)?,
+            made: zeros(alloc, cores)?,
+            stores: no_marks(alloc, count)?,
+            accesses: no_marks(alloc, count)?,
+        })
+    }
+
+    // The place of the mark of a core and a word.
+    fn slot(&self, core: u32, word: u64) -> usize
+        requires core { core < length self.now.strands }
+        requires word { IsWord self.now.extents word }
+        ensures slot { result ≡ slot self.now core word }
+        ensures stores { result < length self.now.stores }
+        ensures accesses { result < length self.now.accesses }
+    {
+        let cores = self.strands.len();
+        if word < PERSISTENT_BASE {
+            ((word - VOLATILE_BASE) / 8) as usize * cores + core as usize
+        } else {
+            (self.sizes.volatile as usize + ((word - PERSISTENT_BASE) / 8) as usize) * cores
+                + core as usize
+        }
+    }
+
+    // What the mark of core c tells of an access.
+    fn answer(&self, c: u32, core: u32, strand: u32, word: u64, write: bool) -> u32
+        requires c { c < length self.now.strands }
+        requires word { IsWord self.now.extents word }
+        ensures { result ≡ answer self.now (access core strand word write) c }
+    {
+        let slot = self.slot(c, word);
+        let mark = if write {
+            self.accesses[slot]
+        } else {
+            self.stores[slot]
+        };
+        if c == core {
+            mark.without(strand)
+        } else {
+            mark.whole()
+        }
+    }
+
+    /// For each core the greatest number of persists that it had made at an earlier access of another
+    /// strand that conflicts with this one, its own persist counted, and 0 where there is none. The
+    /// access is to a `word` by its address; `write` says that it is a store. It takes time in the
+    /// number of cores.
+    pub fn covers(&self, core: u32, strand: u32, word: u64, write: bool) -> CountVector
+        requires { CanAsk self.now (access core strand word write) }
+        ensures answers { (c : ℕ) → c < 8
+            → slice_index result.counts c ≡ answer self.now (access core strand word write) c }
+        ensures stands { (ns : List Noted) → StandFor self.now ns → (c : ℕ) → c < 8
+            → slice_index result.counts c ≡ covered c (access core strand word write) ns }
+    {
+        let mut counts = [0; 8];
+        for c in 0..self.strands.len() {
+            counts[c] = self.answer(c as u32, core, strand, word, write);
+        }
+        CountVector { counts }
+    }
+
+    /// Notes an access at which its core had made so many persists, its own counted. It takes no
+    /// memory and constant time.
+    pub fn note(&mut self, core: u32, strand: u32, word: u64, write: bool, made: u32)
+        requires access { CanAsk self.old (access core strand word write) }
+        requires made { slice_index self.old.made core ≤ made }
+        ensures stands { (ns : List Noted) → StandFor self.old ns
+            → StandFor self.new (ns ++ noted_as (access core strand word write) made ∷ []) }
+        ensures strands { self.new.strands ≡ slice_set self.old.strands core strand }
+        ensures made { self.new.made ≡ slice_set self.old.made core made }
+        ensures extents { self.new.extents ≡ self.old.extents }
+    {
+        let slot = self.slot(core, word);
+        mark_store(&mut self.stores, write, slot, strand, made);
+        mark_access(&mut self.accesses, slot, strand, made);
+        self.strands[core as usize] = strand;
+        self.made[core as usize] = made;
+    }
+}
+
+// Notes an access in the mark at a place.
+fn mark_access(marks: &mut Vec<Mark>, slot: usize, strand: u32, made: u32)
+    requires { slot < length marks.old.items }
+    ensures { marks.new.items ≡ slice_set marks.old.items slot
+        (marked (slice_index_or marks.old.items slot no_mark) strand made) }
+{
+    marks[slot] = marks[slot].marked(strand, made);
+}
+
+// The same where it is a store.
+fn mark_store(marks: &mut Vec<Mark>, write: bool, slot: usize, strand: u32, made: u32)
+    requires { slot < length marks.old.items }
+    ensures { marks.new.items ≡ (if write then slice_set marks.old.items slot
+        (marked (slice_index_or marks.old.items slot no_mark) strand made) else marks.old.items) }
+{
+    if write {
+        mark_access(marks, slot, strand, made);
+    }
+}
+
+// So many zeros.
+fn zeros(alloc: Global, count: u32) -> Result<Vec<u32>, OutOfMemory>
+    ensures { IfOk result (λ zeros. zeros.items ≡ replicate count 0) }
+{
+    Ok(vec![in alloc; 0; count as usize]?)
+}
+
+// So many marks of no access.
+fn no_marks(alloc: Global, count: usize) -> Result<Vec<Mark>, OutOfMemory>
+    ensures { IfOk result (λ marks. marks.items ≡ replicate count no_mark) }
+{
+    Ok(vec![in alloc; NO_MARK; count]?)
+}
