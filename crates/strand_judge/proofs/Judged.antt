@@ -7,7 +7,7 @@ use Rattle.strand_events.specs.declared.event.Event.{Event}
 use Rattle.strand_base.specs.Counting.{any_below}
 use Rattle.strand_events.specs.Trace.{is_persist, word_at, value_at, event_is}
 use Rattle.strand_events.specs.Order.{Set, IsDownwardClosed, sets_word, image_below, image}
-use Rattle.strand_judge.specs.Judged.{IsAllowed, Crash, Agrees, Offers, IsJudged, IsSettled, IsWithin, both, all_persists}
+use Rattle.strand_judge.specs.Judged.{IsAllowed, Crash, IsJudged, IsSettled, IsWithin, both, all_persists}
 use Rattle.strand_base.proofs.Counting.{any_true, any_false, at_or_below}
 use Rattle.strand_events.proofs.Within.{event_within}
 use Rattle.strand_events.proofs.Images.{closed_word, image_yes, image_no, image_alike}
@@ -161,22 +161,3 @@ module _ (mode : Mode) (t : List Event) where
         ]
       ];
     }
-
-    -- the first persist outside a set that offers the value which the set's image lacks is in each settled set around it
-    pub forced : (set other : Set) → IsDownwardClosed mode t set → IsWithin t set other → IsSettled mode t crash other → (word : ℕ) → crash.has word ≡ true → (Agrees t crash set word → ⊥) → (p : ℕ) → Offers t crash word p → ((q : ℕ) → q < p → Offers t crash word q → set q ≡ true) → other p ≡ true
-    forced set other closed within settled word has differs p offer first = true_from_ne_false (other p) (λ out. elim (settled.settled word has) [
-      | inr held ↦ both_ways (other p) out (held p offer)
-      | inl agrees ↦ elim (odd_or_within t other set word) [
-        | inr back ↦ differs (image_alike t set other crash.initial (length t) word (λ k lt is to. same_from (set k) (other k) (within k is) (back k is to)) ∙ agrees)
-        | inl (k, o) ↦
-            let q = beyond set other closed word k o in
-            let value : value_at t q.0 ≡ crash.found word = sym q.2 ∙ agrees in
-            elim (cases_order q.0 p) [
-              | inl e ↦ both_ways (other p) out (ap other (sym e) ∙ (q.1).held)
-              | inr others ↦ elim others [
-                | inl lt ↦ both_ways (set q.0) (q.1).missing (first q.0 lt (record { persist = (q.1).persist; to = (q.1).to; value = value }))
-                | inr gt ↦ both_ways (other p) out (closed_word mode t other settled.allowed.closed p q.0 offer.persist (q.1).persist (offer.to ∙ sym (q.1).to) gt (q.1).held)
-              ]
-            ]
-      ]
-    ])

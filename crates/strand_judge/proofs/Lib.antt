@@ -1,9 +1,7 @@
 pub mod Judged
-pub mod Followed
+pub mod LeastSet
+pub mod Gathering
 pub mod Numbered
-pub mod Lacked
-pub mod Gathered
-pub mod Fewer
 pub mod Pictured
 pub mod Ruled
 pub mod Within

@@ -1,7 +1,8 @@
 pub mod Judged
-pub mod Words
-pub mod Marks
-pub mod Closing
-pub mod Forcing
-pub mod Lacking
 pub mod Verdicts
+pub mod Words
+pub mod Images
+pub mod Offered
+pub mod Worklist
+pub mod Ends
+pub mod Gathered

@@ -3,7 +3,7 @@ ghost use Rattle.std.specs.Prelude.{◌≡◌, ◌<◌, ◌&&◌, length, slice_
 ghost use Rattle.strand_events.specs.Trace.{event_is, is_persist, word_at, value_at};
 ghost use Rattle.strand_events.specs.Order.{held};
 ghost use Rattle.strand_events.specs.Places.{place_of, LieIn};
-ghost use Rattle.strand_judge.specs.Forcing.{IsImage, is_lacking, LacksNone, LacksFirst, DifferFirst, AreSame};
+ghost use Rattle.strand_judge.specs.Images.{IsImage, DifferFirst, AreSame};
 
 use std::alloc::Global;
 use strand_base::OutOfMemory;
@@ -46,44 +46,6 @@ pub(crate) fn image_of(
         put_value(&mut image, events, marks, k);
     }
     Ok(image)
-}
-
-// Whether event k is a persist that isn't marked, and has the value that was found where the image differs.
-fn is_lacking(events: &[Event], marks: &[bool], image: &[u64], found: &[u64], k: usize) -> bool
-    requires k { k < length events.now }
-    requires marks { length marks.now ≡ length events.now }
-    requires same { length image.now ≡ length found.now }
-    requires within { LieIn events.now (length found.now) }
-    ensures { result ≡ is_lacking events.now (held marks.now) image.now found.now k }
-{
-    let event = events[k];
-    if !event.is_persist() || marks[k] {
-        return false;
-    }
-    let place = place_of(event.word());
-    image[place] != found[place] && event.value() == found[place]
-}
-
-/// The first such persist.
-pub(crate) fn first_lacking(
-    events: &[Event],
-    marks: &[bool],
-    image: &[u64],
-    found: &[u64],
-) -> Option<usize>
-    requires marks { length marks.now ≡ length events.now }
-    requires same { length image.now ≡ length found.now }
-    requires within { LieIn events.now (length found.now) }
-    ensures { MatchOption result
-        (LacksNone events.now (held marks.now) image.now found.now (length events.now))
-        (LacksFirst events.now (held marks.now) image.now found.now) }
-{
-    for k in 0..events.len() {
-        if is_lacking(events, marks, image, found, k) {
-            return Some(k);
-        }
-    }
-    None
 }
 
 /// The place of the first difference, if there is one.

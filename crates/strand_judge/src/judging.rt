@@ -1,63 +1,56 @@
-ghost use Rattle.std.specs.Prelude.{◌≡◌, ◌<◌, ◌^◌, length, IfOk, OnOk, MatchOption};
+ghost use Rattle.std.specs.Prelude.{◌≡◌, ◌<◌, length, IfOk};
 ghost use Rattle.strand_events.specs.Trace.{persists_of};
 ghost use Rattle.strand_events.specs.Order.{held, is_joined};
 ghost use Rattle.strand_events.specs.Numbers.{numbers_of};
 ghost use Rattle.strand_judge.specs.Judged.{IsLeastSettled};
 ghost use Rattle.strand_events.specs.Places.{LieIn};
 ghost use Rattle.strand_judge.specs.Words.{crash_of};
-ghost use Rattle.strand_judge.specs.Marks.{Marks};
-ghost use Rattle.strand_judge.specs.Lacking.{Lacks, LacksNothing};
 ghost use Rattle.strand_judge.specs.Verdicts.{SaysYes, SaysNo, NamesWord, IsVerdict};
 
-use crate::closing::close;
-use crate::images::{first_difference, first_lacking, image_of};
-use crate::marking::{mark_joined, numbers_of, persists_of, rank};
+use crate::images::{first_difference, image_of};
+use crate::listing::ends_of;
+use crate::marking::{numbers_of, persists_of, rank};
+use crate::offers::gather;
+use crate::seeding::{mark_forced, mark_joined};
+use crate::serving::serve;
 use crate::verdict::Verdict;
 use std::alloc::Global;
 use strand_base::{Numbers, OutOfMemory};
-use strand_events::Event;
 use strand_order::Graph;
 
-// The first persist that the marked set lacks.
-fn next_lacking(
-    alloc: Global,
-    events: &[Event],
-    marks: &[bool],
-    first: &[u64],
-    found: &[u64],
-) -> Result<Option<usize>, OutOfMemory>
-    requires marks { length marks.now ≡ length events.now }
-    requires same { length first.now ≡ length found.now }
-    requires within { LieIn events.now (length found.now) }
-    ensures { IfOk result (λ next. MatchOption next
-        (LacksNothing events.now (crash_of first.now found.now) (held marks.now))
-        (Lacks events.now (crash_of first.now found.now) (held marks.now))) }
-{
-    let image = image_of(alloc, events, marks, first)?;
-    Ok(first_lacking(events, marks, &image, found))
-}
-
-// Marks the least settled set, from the joined persists on: a persist that the set lacks is in every settled
-// set, and so is all that comes before it.
-fn settle(
+// Marks on the events, whose persists are the least settled set. `persists` are the event numbers of the
+// persists, and `joined` the numbers of the joined ones.
+fn settled(
     alloc: Global,
     graph: &Graph,
-    marks: &mut [bool],
+    persists: &[u32],
+    joined: &[u32],
     first: &[u64],
     found: &[u64],
-) -> Result<(), OutOfMemory>
-    requires joined { Marks marks.old (length graph.now.events) (is_joined graph.now.events) }
+) -> Result<Vec<bool>, OutOfMemory>
+    requires persists { persists.now ≡ persists_of graph.now.events }
+    requires joined { joined.now ≡ numbers_of graph.now.events (is_joined graph.now.events) }
     requires same { length first.now ≡ length found.now }
     requires within { LieIn graph.now.events (length found.now) }
-    ensures least { OnOk result (IsLeastSettled graph.now.mode graph.now.events (crash_of first.now found.now) (held marks.new)) }
-    ensures long { length marks.new ≡ length graph.now.events }
+    ensures least { IfOk result (λ marks.
+        IsLeastSettled graph.now.mode graph.now.events (crash_of first.now found.now) (held marks.items)) }
+    ensures long { IfOk result (λ marks. length marks.items ≡ length graph.now.events) }
 {
-    close(graph, marks);
-    while let Some(p) = next_lacking(alloc, graph.events(), marks, first, found)? {
-        marks[p] = true;
-        close(graph, marks);
+    let events = graph.events();
+    let offered = gather(alloc, events, found)?;
+    let ends = ends_of(alloc, graph)?;
+    let mut marks = vec![in alloc; false; events.len()]?;
+    let mut list = Vec::new(alloc);
+    mark_joined(events, persists, joined, &mut marks, &mut list)?;
+    mark_forced(events, &offered, first, found, &mut marks, &mut list)?;
+    let mut done = 0;
+    while done < list.len() {
+        serve(
+            graph, &ends, &offered, found, list[done], &mut marks, &mut list,
+        )?;
+        done += 1;
     }
-    Ok(())
+    Ok(marks)
 }
 
 // What the least settled set says of the crash image.
@@ -108,7 +101,6 @@ pub fn judge(
     ensures { IfOk result (IsVerdict graph.now.mode graph.now.events (crash_of initial.now crash.now)) }
 {
     let persists = persists_of(alloc, graph.events())?;
-    let mut marks = mark_joined(alloc, graph.events(), &persists, joined.as_slice())?;
-    settle(alloc, graph, &mut marks, initial, crash)?;
+    let marks = settled(alloc, graph, &persists, joined.as_slice(), initial, crash)?;
     verdict(alloc, graph, &persists, &marks, initial, crash)
 }

@@ -1,11 +1,14 @@
 //! The judge: whether a crash image may have come from a run, by the persist order of its trace.
 #![tactic(auto)]
 
-mod closing;
 mod images;
 mod judging;
 mod laws;
+mod listing;
 mod marking;
+mod offers;
+mod seeding;
+mod serving;
 mod verdict;
 
 pub use judging::judge;

@@ -1,10 +1,8 @@
 // Persists by their numbers, and marks on events.
-ghost use Rattle.std.specs.Prelude.{◌≡◌, ℕ, ◌<◌, ◌^◌, true, length, slice_index, IfOk};
+ghost use Rattle.std.specs.Prelude.{◌≡◌, ℕ, ◌<◌, ◌^◌, length, slice_index, IfOk};
 ghost use Rattle.strand_base.specs.Counting.{count_below, list_below};
 ghost use Rattle.strand_events.specs.Trace.{persists_of};
-ghost use Rattle.strand_events.specs.Order.{held, is_joined, sets_word};
-ghost use Rattle.strand_events.specs.Numbers.{numbers_of};
-ghost use Rattle.strand_judge.specs.Marks.{Marks};
+ghost use Rattle.strand_events.specs.Order.{held, sets_word};
 
 use std::alloc::Global;
 use strand_base::{Numbers, OutOfMemory};
@@ -22,24 +20,6 @@ pub(crate) fn persists_of(alloc: Global, events: &[Event]) -> Result<Vec<u32>, O
         }
     }
     Ok(persists)
-}
-
-/// Marks on the events of the joined persists.
-pub(crate) fn mark_joined(
-    alloc: Global,
-    events: &[Event],
-    persists: &[u32],
-    joined: &[u32],
-) -> Result<Vec<bool>, OutOfMemory>
-    requires persists { persists.now ≡ persists_of events.now }
-    requires joined { joined.now ≡ numbers_of events.now (is_joined events.now) }
-    ensures { IfOk result (λ marks. Marks marks.items (length events.now) (is_joined events.now)) }
-{
-    let mut marks = vec![in alloc; false; events.len()]?;
-    for p in joined {
-        marks[persists[*p as usize] as usize] = true;
-    }
-    Ok(marks)
 }
 
 /// The numbers of the marked persists, ascending.

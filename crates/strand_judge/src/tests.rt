@@ -140,6 +140,16 @@ fn the_least_set_is_given(rt: HostRuntime) -> Result<(), Fail> {
     twice.push(store(1, 1));
     let all = verdict(rt.alloc(), &twice, Mode::Strand, &[0, 0], &[1, 1]);
     assert!(rt; is_yes(all, &[0, 1, 2, 3]));
+    // the other word needs the second value, which asks for the next persist that has the found one
+    let mut again = Trace::new(rt.alloc(), 6).ok().ok_or("memory")?;
+    again.push(store(0, 1));
+    again.push(store(0, 2));
+    again.push(Event::Barrier { core: 0 });
+    again.push(store(1, 1));
+    again.push(store(0, 1));
+    again.push(store(0, 1));
+    let asked = verdict(rt.alloc(), &again, Mode::Strand, &[0, 0], &[1, 1]);
+    assert!(rt; is_yes(asked, &[0, 1, 2, 3]));
     // the store of the initial value needs nothing
     let mut same = Trace::new(rt.alloc(), 1).ok().ok_or("memory")?;
     same.push(store(0, 5));

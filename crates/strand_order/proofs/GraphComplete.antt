@@ -1,4 +1,4 @@
--- What is before an access by persist order has a path of edges to it.
+-- `before` of `paths_are_persist_order`: what is before an access by persist order has a path of edges to it.
 use Rattle.std.proofs.Common.{◌≡◌, ℕ, zero, suc, ◌<◌, Bool, true, false, ◌||◌, ◌&&◌, ◌⊎◌, inl, inr, List, [], ◌∷◌, ◌++◌, Some, None, Option, refl, sym, ap, ◌∙◌, arith}
 use Rattle.std.specs.Prelude.{slice_get, not, ◌==◌, nat_lt}
 use Rattle.std.proofs.lemmas.Bool.{cases_eq, cases_order, cases_Bool, and_parts, and_from, or_cases, or_left, or_right, eqb-true, eq-eqb, ltb-true, lt-ltb, not-true, false≢true, both_ways}
@@ -13,7 +13,7 @@ use Rattle.strand_order.specs.Graph.{any_between, stores_word, word_edge, access
 use Rattle.strand_base.proofs.Counting.{any_from, any_true, at_or_below}
 use Rattle.strand_events.proofs.Epochs.{weaker, strand_parts, strand_from, strand_flip, strand_chain, between_parts, between_from, direct_parts, conflict_word, same_number}
 
-store_is_access : (e : Event) → is_store e ≡ true → is_access e ≡ true
+pub store_is_access : (e : Event) → is_store e ≡ true → is_access e ≡ true
 store_is_access (Store persist core word value) h = refl
 store_is_access (Load core word) h = absurd (false≢true h)
 store_is_access (Barrier core) h = absurd (false≢true h)

@@ -1,5 +1,9 @@
 pub mod GraphSound
 pub mod GraphComplete
-pub mod LookedBack
+pub mod DirectPaths
 pub mod Listed
 pub mod Ends
+pub mod FewEdges
+pub mod Noting
+pub mod Finding
+pub mod Following

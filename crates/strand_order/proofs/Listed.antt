@@ -1,4 +1,4 @@
--- What stands in the list of the edges, and in which order.
+-- `edges_are_listed`: what stands in the list of the edges, and in which order.
 use Rattle.std.proofs.Common.{◌≡◌, ℕ, zero, suc, ◌+◌, ◌-◌, ◌<◌, ◌≤◌, inl, inr, true, ◌⊎◌, List, [], ◌∷◌, ◌++◌, length, Some, None, Option, refl, sym, ap, ◌∙◌, arith}
 use Rattle.std.specs.Prelude.{slice_get, Bool, ◌||◌, nat_lt}
 use Rattle.std.specs.Option.{option_map}

@@ -1,4 +1,9 @@
 pub mod Graph
 pub mod Edges
-pub mod Looking
 pub mod GraphSeen
+pub mod DirectPaths
+pub mod Marks
+pub mod CoreMarks
+pub mod Sources
+pub mod Walks
+pub mod Seen

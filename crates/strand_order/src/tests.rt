@@ -50,7 +50,6 @@ fn edges_of_the_three_modes(rt: HostRuntime) -> Result<(), Fail> {
     ];
     for (mode, edges) in &table {
         let graph = build(rt.alloc(), &trace, *mode).ok().ok_or("memory")?;
-        assert!(rt; graph.mode() == *mode);
         assert_eq!(rt; graph.events().len(), 7);
         assert_eq!(rt; graph.edges().len(), edges.len());
         for (edge, (before, after)) in graph.edges().iter().zip(edges.iter()) {

@@ -1,4 +1,4 @@
--- A trace has at most one chosen chain; it is a chain, and no chain is longer.
+-- `chosen_chains_are_longest`: a trace has at most one chosen chain; it is a chain, and no chain is longer.
 use Rattle.std.proofs.Common.{◌≡◌, ℕ, zero, suc, ◌+◌, ◌-◌, ◌<◌, ◌≤◌, true, inl, inr, List, [], ◌∷◌, ◌++◌, length, refl, sym, ap, ◌∙◌, arith, subst}
 use Rattle.std.specs.Prelude.{slice_index}
 use Rattle.std.proofs.lemmas.Bool.{cases_lt}

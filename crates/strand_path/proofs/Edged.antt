@@ -1,4 +1,4 @@
--- What the edges of the list say of a route and of levels.
+-- `yes` and `no` of `check_path`: what holds of the edges of the list holds of all edges.
 use Rattle.std.proofs.Common.{◌≡◌, ℕ, ◌+◌, ◌<◌, ◌≤◌, Bool, true, false, inl, inr, List, length, Some, refl, sym, ap, ◌∙◌, arith, subst}
 use Rattle.std.specs.Prelude.{slice_get, ◌==◌}
 use Rattle.std.proofs.lemmas.Bool.{cases_eq, and_parts, and_from, eqb-true, eq-eqb, both_ways, false_from_ne_true}

@@ -1,4 +1,4 @@
--- Levels are the lengths of longest chains, and picked members are the chosen chain.
+-- `chosen` of `longest`: levels are the lengths of longest chains, and picked members are the chosen chain.
 use Rattle.std.proofs.Common.{◌≡◌, ℕ, zero, suc, ◌+◌, ◌-◌, ◌<◌, ◌≤◌, true, List, [], ◌∷◌, ◌++◌, length, map, refl, ap, ◌∙◌, arith, subst}
 use Rattle.std.specs.Prelude.{slice_index}
 use Rattle.std.proofs.lemmas.List.{length-append}

@@ -1,9 +1,8 @@
 pub mod Edged
+pub mod Sought
 pub mod Along
 pub mod Bounds
-pub mod Raised
-pub mod Onto
-pub mod Picked
-pub mod Walked
+pub mod Pass
+pub mod Back
 pub mod Levelled
 pub mod ChosenLaws

@@ -1,10 +1,10 @@
--- Levels that are attained, and ways along edges.
-use Rattle.std.specs.Prelude.{◌≡◌, ℕ, suc, ◌+◌, ◌<◌, ◌≤◌, Bool, true, ◌||◌, ◌==◌, nat_lt, max, List, length, slice_index, slice_set, if◌then◌else◌}
+-- Levels that are raised edge by edge, and attained.
+use Rattle.std.specs.Prelude.{◌≡◌, ℕ, suc, ◌+◌, ◌<◌, ◌≤◌, true, max, List, length, slice_index, slice_set, if◌then◌else◌}
 use Rattle.strand_inputs.specs.declared.mode.Mode.{Mode}
 use Rattle.strand_events.specs.declared.event.Event.{Event}
 use Rattle.strand_events.specs.Trace.{is_persist, event_is}
 use Rattle.strand_order.specs.declared.edge.Edge.{Edge}
-use Rattle.strand_order.specs.Graph.{is_edge, LeadsTo}
+use Rattle.strand_order.specs.Graph.{LeadsTo}
 
 -- what an event adds to the levels before it
 abbrev pub own_level : List Event → ℕ → ℕ
@@ -28,16 +28,3 @@ pub record Support (mode : Mode) (t : List Event) (levels : List ℕ) (j : ℕ) 
 
 abbrev pub AreSupported : Mode → List Event → List ℕ → Type 0
 AreSupported mode t levels = (j : ℕ) → event_is is_persist t j ≡ true → 2 ≤ slice_index levels j → Support mode t levels j
-
--- event x has a next event on its way, or is where the ways lead
-abbrev pub leads_on : List ℕ → ℕ → Bool
-leads_on onto x = nat_lt 0 (slice_index onto x)
-
-abbrev pub is_on : List ℕ → ℕ → ℕ → Bool
-is_on onto q x = (x == q) || leads_on onto x
-
--- the way of each event from which a path leads to event q
-pub record AreWays (mode : Mode) (t : List Event) (q : ℕ) (onto : List ℕ) : Type 0 where
-  pub long : length onto ≡ length t
-  pub sound : (x : ℕ) → leads_on onto x ≡ true → (is_edge mode t x (slice_index onto x) ≡ true) × (is_on onto q (slice_index onto x) ≡ true)
-  pub complete : (x : ℕ) → LeadsTo mode t x q → leads_on onto x ≡ true

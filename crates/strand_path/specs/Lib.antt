@@ -3,3 +3,5 @@ pub mod Checked
 pub mod Chosen
 pub mod Building
 pub mod Picking
+pub mod Seeking
+pub mod Tracing

@@ -4,16 +4,11 @@ use Rattle.strand_inputs.specs.declared.mode.Mode.{Mode}
 use Rattle.strand_events.specs.declared.event.Event.{Event}
 use Rattle.strand_events.specs.Trace.{is_persist, event_is}
 use Rattle.strand_order.specs.Graph.{Path, LeadsTo}
-use Rattle.strand_path.specs.Building.{leads_on}
 use Rattle.strand_path.specs.Checked.{greatest_below}
 
 -- event k is a persist of the level
 abbrev pub is_of_level : List Event → List ℕ → ℕ → ℕ → Bool
 is_of_level t levels level k = event_is is_persist t k && (slice_index levels k == level)
-
--- and has a way
-abbrev pub is_on_way : List Event → List ℕ → List ℕ → ℕ → ℕ → Bool
-is_on_way t levels onto level k = is_of_level t levels level k && leads_on onto k
 
 -- the first number that passes
 pub record IsFirst (test : ℕ → Bool) (p : ℕ) : Type 0 where

@@ -1,12 +1,13 @@
-ghost use Rattle.std.specs.Prelude.{◌≡◌, ℕ, ◌<◌, ◌≤◌, ◌^◌, true, List, length, slice_index};
+ghost use Rattle.std.specs.Prelude.{◌≡◌, ℕ, ◌<◌, ◌≤◌, true, List, length, slice_index};
 ghost use Rattle.strand_events.specs.Trace.{is_persist, event_is};
-ghost use Rattle.strand_order.specs.Graph.{is_edge};
 ghost use Rattle.strand_path.specs.Chains.{IsChain, events_of};
-ghost use Rattle.strand_path.specs.Checked.{is_from_to, has_at, IsRoute, number_of, numbers_on, AreLevels, goes_up, greatest_below, IsChecked};
+ghost use Rattle.strand_path.specs.Checked.{has_at, IsRoute, numbers_on, AreLevels, goes_up, greatest_below, IsChecked};
 
+use crate::numbering::number_from;
 use crate::path::Path;
+use crate::routes::is_route;
 use strand_events::Event;
-use strand_order::{Edge, Graph};
+use strand_order::Graph;
 
 // Whether event k is a persist.
 pub(crate) fn is_persist_at(events: &[Event], k: usize) -> bool
@@ -14,68 +15,6 @@ pub(crate) fn is_persist_at(events: &[Event], k: usize) -> bool
     ensures { result ≡ event_is is_persist events.now k }
 {
     events[k].is_persist()
-}
-
-// Whether an edge is from event i to event j.
-fn is_from_to(edge: Edge, i: u32, j: u32) -> bool
-    ensures { result ≡ is_from_to edge i j }
-{
-    edge.before == i && edge.after == j
-}
-
-// Whether there is an edge from event i to event j.
-fn has_edge(graph: &Graph, i: u32, j: u32) -> bool
-    requires { j < length graph.now.events }
-    ensures { result ≡ is_edge graph.now.mode graph.now.events i j }
-{
-    for edge in graph.edges() {
-        if is_from_to(*edge, i, j) {
-            return true;
-        }
-    }
-    false
-}
-
-// Whether all are numbers of events.
-fn are_events(events: &[Event], route: &[u32]) -> bool
-    ensures yes { result ≡ true → (k : ℕ) → k < length route.now → slice_index route.now k < length events.now }
-    ensures no { ((k : ℕ) → k < length route.now → slice_index route.now k < length events.now) → result ≡ true }
-{
-    for event in route {
-        if *event as usize >= events.len() {
-            return false;
-        }
-    }
-    true
-}
-
-fn is_route(graph: &Graph, route: &[u32]) -> bool
-    ensures yes { result ≡ true → IsRoute graph.now.mode graph.now.events route.now }
-    ensures no { IsRoute graph.now.mode graph.now.events route.now → result ≡ true }
-{
-    if !are_events(graph.events(), route) {
-        return false;
-    }
-    for k in 1..route.len() {
-        if !has_edge(graph, route[k - 1], route[k]) {
-            return false;
-        }
-    }
-    true
-}
-
-// The number of a persist.
-pub(crate) fn number_of(events: &[Event], event: u32) -> u32
-    requires { event ≤ length events.now }
-    ensures { result ≡ number_of events.now event }
-{
-    let mut count: u32 = 0;
-    for k in 0..event as usize {
-        if events[k].is_persist() {
-            count += 1;
-        }
-    }
-    count
 }
 
 // Whether the number stands at a place of the chain.
@@ -86,15 +25,20 @@ fn has_at(chain: &[u32], place: usize, number: u32) -> bool
 }
 
 // Whether the chain has the numbers of the persists on the route.
-fn is_along(events: &[Event], route: &[u32], chain: &[u32]) -> bool
-    requires { (k : ℕ) → k < length route.now → slice_index route.now k < length events.now }
-    ensures yes { result ≡ true → chain.now ≡ numbers_on events.now route.now }
-    ensures no { chain.now ≡ numbers_on events.now route.now → result ≡ true }
+fn is_along(graph: &Graph, route: &[u32], chain: &[u32]) -> bool
+    requires { IsRoute graph.now.mode graph.now.events route.now }
+    ensures yes { result ≡ true → chain.now ≡ numbers_on graph.now.events route.now }
+    ensures no { chain.now ≡ numbers_on graph.now.events route.now → result ≡ true }
 {
+    let events = graph.events();
     let mut next = 0;
+    let mut at: u32 = 0;
+    let mut number: u32 = 0;
     for k in 0..route.len() {
-        if is_persist_at(events, route[k] as usize) {
-            if !has_at(chain, next, number_of(events, route[k])) {
+        number = number_from(events, at, number, route[k]);
+        at = route[k];
+        if is_persist_at(events, at as usize) {
+            if !has_at(chain, next, number) {
                 return false;
             }
             next += 1;
@@ -170,7 +114,7 @@ fn is_checked(graph: &Graph, path: &Path) -> bool
         path.route.as_slice(),
         path.levels.as_slice(),
     );
-    if !is_route(graph, route) || !is_along(graph.events(), route, chain) {
+    if !is_route(graph, route) || !is_along(graph, route, chain) {
         return false;
     }
     are_levels(graph, levels) && greatest(graph.events(), levels) as usize == chain.len()

@@ -4,11 +4,12 @@
 mod checking;
 mod choosing;
 mod laws;
-mod levels;
+mod numbering;
 mod path;
 mod picking;
+mod routes;
+mod tracing;
 mod walking;
-mod ways;
 
 pub use checking::check_path;
 pub use choosing::longest;

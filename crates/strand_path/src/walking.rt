@@ -1,35 +1,50 @@
 // The route through the members of a chain.
-ghost use Rattle.std.specs.Prelude.{◌≡◌, ℕ, ◌<◌, suc, true, map, length, slice_index, IfOk, OnOk};
-ghost use Rattle.strand_events.specs.Trace.{is_persist, event_is};
-ghost use Rattle.strand_order.specs.Graph.{LeadsTo};
-ghost use Rattle.strand_path.specs.Checked.{AreLevels, IsRoute, number_of, numbers_on};
+ghost use Rattle.std.specs.Prelude.{◌≡◌, ◌<◌, ◌≤◌, ◌++◌, List, map, reverse, slice_index, IfOk, OnOk};
+ghost use Rattle.strand_inputs.specs.declared.mode.Mode.{Mode};
+ghost use Rattle.strand_events.specs.declared.event.Event.{Event};
+ghost use Rattle.strand_path.specs.Checked.{IsRoute, number_of, numbers_on};
 ghost use Rattle.strand_path.specs.Picking.{ArePicked, IsWalked};
+ghost use Rattle.strand_path.specs.Tracing.{IsLinked, AreTraces};
 
-use crate::checking::number_of;
-use crate::ways::ways_to;
+use crate::tracing::Traces;
 use std::alloc::Global;
 use strand_base::{Numbers, OutOfMemory};
-use strand_events::Event;
 use strand_order::Graph;
 
-// Puts the events of a path from p to q at the end, without p.
+// Puts the numbers of a list, the last first, at the end.
+fn put_back(route: &mut Numbers, list: &[u32]) -> Result<(), OutOfMemory>
+    ensures { OnOk result (route.new ≡ route.old ++ reverse list.now) }
+{
+    let mut k = list.len();
+    while k > 0 {
+        k -= 1;
+        route.push(list[k])?;
+    }
+    Ok(())
+}
+
+// Puts the events of the way from p, the first persist of the level below q's, to q at the end, without p.
 fn walk(
     alloc: Global,
-    graph: &Graph,
+    traces: &Traces,
     p: u32,
     q: u32,
     route: &mut Numbers,
 ) -> Result<(), OutOfMemory>
-    requires q { q < length graph.now.events }
-    requires path { LeadsTo graph.now.mode graph.now.events p q }
-    ensures { OnOk result (IsWalked graph.now.mode graph.now.events p q route.old route.new) }
+    requires linked { (mode : Mode) × (t : List Event) × IsLinked mode t traces.now }
+    requires first { slice_index traces.now.firsts.items q ≡ p }
+    requires via { 1 ≤ slice_index traces.now.vias.items q }
+    requires less { p < q }
+    ensures { OnOk result ((mode : Mode) (t : List Event) → IsLinked mode t traces.now
+        → IsWalked mode t p q route.old route.new) }
 {
-    let onto = ways_to(alloc, graph, q)?;
-    let mut x = p;
-    while x != q {
-        x = onto[x as usize];
-        route.push(x)?;
+    let mut back = Vec::new(alloc);
+    let mut x = q;
+    while x != p {
+        back.push(x)?;
+        x = traces.vias[x as usize] - 1;
     }
+    put_back(route, &back)?;
     Ok(())
 }
 
@@ -37,13 +52,14 @@ fn walk(
 pub(crate) fn route_of(
     alloc: Global,
     graph: &Graph,
-    levels: &[u32],
+    traces: &Traces,
     members: &[u32],
 ) -> Result<Numbers, OutOfMemory>
-    requires levels { AreLevels graph.now.mode graph.now.events levels.now }
-    requires picked { ArePicked graph.now.mode graph.now.events levels.now members.now 0 }
+    requires traces { AreTraces graph.now.mode graph.now.events traces.now }
+    requires picked { ArePicked graph.now.mode graph.now.events traces.now.levels.items members.now 0 }
     ensures route { IfOk result (IsRoute graph.now.mode graph.now.events) }
-    ensures persists { IfOk result (λ route. numbers_on graph.now.events route ≡ map (number_of graph.now.events) members.now) }
+    ensures persists { IfOk result (λ route. numbers_on graph.now.events route
+        ≡ map (number_of graph.now.events) members.now) }
 {
     let mut route = Numbers::new(alloc);
     if members.is_empty() {
@@ -51,25 +67,9 @@ pub(crate) fn route_of(
     }
     route.push(members[0])?;
     for k in 1..members.len() {
-        walk(alloc, graph, members[k - 1], members[k], &mut route)?;
+        walk(alloc, traces, members[k - 1], members[k], &mut route)?;
     }
     Ok(route)
-}
-
-/// The numbers of persists by their events.
-pub(crate) fn numbers_of(
-    alloc: Global,
-    events: &[Event],
-    members: &[u32],
-) -> Result<Numbers, OutOfMemory>
-    requires { (k : ℕ) → k < length members.now → slice_index members.now k < length events.now }
-    ensures { IfOk result (λ numbers. numbers ≡ map (number_of events.now) members.now) }
-{
-    let mut numbers = Numbers::new(alloc);
-    for member in members {
-        numbers.push(number_of(events, *member))?;
-    }
-    Ok(numbers)
 }
 
 /// The same numbers.

@@ -1,5 +1,5 @@
 use Rattle.strand_events.specs.Order.{held}
-use Rattle.strand_judge.specs.Forcing.{IsImageBelow}
+use Rattle.strand_judge.specs.Images.{IsImageBelow}
 use Rattle.strand_judge.proofs.images.image_of.Given as goal
 
 abbrev pub invariant-loop-k : goal.invariant-loop-k

@@ -7,7 +7,7 @@ use Rattle.strand_events.specs.Order.{Set, held, sets_word}
 use Rattle.strand_events.proofs.Kept.{persists_most}
 use Rattle.strand_events.specs.Places.{address_of}
 use Rattle.strand_judge.specs.Words.{crash_of}
-use Rattle.strand_judge.specs.Forcing.{IsImage}
+use Rattle.strand_judge.specs.Images.{IsImage}
 use Rattle.strand_judge.proofs.Judged.{judged_settled, least_judged}
 use Rattle.strand_judge.proofs.Numbered.{persist_within}
 use Rattle.strand_judge.proofs.Ruled.{all_agree, differs_first}

@@ -1,4 +1,4 @@
-use Rattle.std.proofs.Common.{◌≡◌, ◌<◌, ◌∙◌, length, map, ap, sym, subst, arith}
+use Rattle.std.proofs.Common.{◌≡◌, ℕ, suc, ◌<◌, ◌≤◌, ◌∙◌, length, map, ap, sym, subst, arith}
 use Rattle.std.specs.Prelude.{slice_index}
 use Rattle.std.proofs.lemmas.List.{length-map, get_or-map}
 use Rattle.strand_path.specs.Chains.{events_of}
@@ -6,6 +6,7 @@ use Rattle.strand_path.specs.Checked.{number_of}
 use Rattle.strand_path.specs.Chosen.{IsChosen}
 use Rattle.strand_path.specs.Picking.{ArePicked}
 use Rattle.strand_path.proofs.Bounds.{number_within}
+use Rattle.strand_path.proofs.Back.Picked.{members_rise}
 use Rattle.strand_path.proofs.Levelled.{picked_chosen, events_again}
 use Rattle.strand_path.proofs.choosing.longest.Goals as goal
 
@@ -13,10 +14,10 @@ pub returns-clause-chosen : goal.returns-clause-chosen
 returns-clause-chosen c =
     let mode = c.args.graph.now.mode in
     let t = c.args.graph.now.events in
-    let levels = c.in_ok-levels.levels.items in
+    let levels = c.in_ok-traces.traces.levels.items in
     let members = c.in_ok-members.members.items in
-    let picked : ArePicked mode t levels members 0 = subst (λ xs. ArePicked mode t xs members 0) c.deref-2.ensures.value c.in_ok-members.ensures in
-    let numbers : c.in_ok-numbers_of.field-0 ≡ map (number_of t) members = c.in_ok-numbers_of.ensures ∙ ap (λ ev. map (number_of ev) c.deref-3.result.now) c.events-2.ensures.events ∙ ap (map (number_of t)) c.deref-3.ensures.value in
+    let picked : ArePicked mode t levels members 0 = c.in_ok-members.ensures in
+    let numbers : c.in_ok-numbers_of.field-0 ≡ map (number_of t) members = c.in_ok-numbers_of.ensures ∙ ap (λ ev. map (number_of ev) c.deref-2.result.now) c.events-2.ensures.events ∙ ap (map (number_of t)) c.deref-2.ensures.value in
     let same : events_of t c.in_ok-numbers_of.field-0 ≡ members = ap (events_of t) numbers ∙ events_again mode t members (λ k lt. picked.persist k (omega arith) lt) in
     record {
       numbers = λ k lt.
@@ -24,5 +25,10 @@ returns-clause-chosen c =
           let inside : k < length members = omega (arith, lt, long) in
           let here : slice_index c.in_ok-numbers_of.field-0 k ≡ number_of t (slice_index members k) = ap (λ xs. slice_index xs k) numbers ∙ get_or-map (number_of t) members k 0 0 inside in
           omega (arith, here, number_within mode t (slice_index members k) (picked.persist k (omega arith) inside));
-      chosen = subst (λ xs. IsChosen mode t xs) (sym same) (picked_chosen mode t levels c.in_ok-levels.ensures.levels c.in_ok-levels.ensures.supported members picked);
+      chosen = subst (λ xs. IsChosen mode t xs) (sym same) (picked_chosen mode t levels c.in_ok-traces.ensures.levels c.in_ok-traces.ensures.supported members picked);
     }
+
+pub numbers_of-requires-clause-rising : goal.numbers_of-requires-clause-rising
+numbers_of-requires-clause-rising c =
+    let rises = members_rise c.args.graph.now.mode c.args.graph.now.events c.in_ok-traces.traces.levels.items c.in_ok-members.members.items c.in_ok-members.ensures in
+    subst (λ xs. (k : ℕ) → suc k < length xs → slice_index xs k ≤ slice_index xs (suc k)) (sym c.deref-2.ensures.value) (λ k lt. omega (arith, rises k lt))

@@ -1,5 +1,0 @@
-use Rattle.strand_path.specs.Building.{AreOwn}
-use Rattle.strand_path.proofs.levels.own_levels.Given as goal
-
-abbrev pub invariant-loop-k : goal.invariant-loop-k
-invariant-loop-k l = AreOwn l.events l.k l.levels.items
