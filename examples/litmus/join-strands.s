@@ -1,0 +1,11 @@
+# Two strands, and a join after them.
+    lui x2, 0x40000
+    li x1, 1
+    sd x1, 0(x2)
+    newstrand
+    sd x1, 8(x2)
+    joinstrand
+    sd x1, 16(x2)
+    ebreak
+.persist
+.space 3

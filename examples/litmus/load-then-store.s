@@ -1,0 +1,10 @@
+# The second strand loads what the first one stored and stores the same value, without a barrier.
+    lui x2, 0x40000
+    li x1, 1
+    sd x1, 0(x2)
+    newstrand
+    ld x4, 0(x2)
+    sd x4, 8(x2)
+    ebreak
+.persist
+.space 2

@@ -1,0 +1,10 @@
+# Two words on two strands, and a barrier after the second strand has begun.
+    lui x2, 0x40000
+    li x1, 1
+    sd x1, 0(x2)
+    newstrand
+    persistbarrier
+    sd x1, 8(x2)
+    ebreak
+.persist
+.space 2

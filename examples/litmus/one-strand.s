@@ -1,0 +1,8 @@
+# Two words on one strand, with nothing between them.
+    lui x2, 0x40000
+    li x1, 1
+    sd x1, 0(x2)
+    sd x1, 8(x2)
+    ebreak
+.persist
+.space 2

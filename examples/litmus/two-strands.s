@@ -1,0 +1,9 @@
+# Two words on two strands.
+    lui x2, 0x40000
+    li x1, 1
+    sd x1, 0(x2)
+    newstrand
+    sd x1, 8(x2)
+    ebreak
+.persist
+.space 2
