@@ -1,7 +1,10 @@
-pub mod ReadFiles
+pub mod Read
 pub mod Opened
-pub mod RunMade
+pub mod RunReads
+pub mod JudgeReads
 pub mod Ran
-pub mod Converted
-pub mod Causes
-pub mod Headline
+pub mod Comes
+pub mod Laws
+pub mod RuleLaws
+pub mod Clauses
+pub mod Calls

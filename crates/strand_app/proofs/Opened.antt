@@ -1,156 +1,152 @@
--- What the files of a command say, from the fetches one after the other.
-use Rattle.std.proofs.Common.{◌≡◌, ℕ, zero, suc, ◌+◌, ◌-◌, ◌≤◌, List, [], ◌∷◌, refl, ap, ◌∙◌, arith, subst}
-use Rattle.std.specs.Prelude.{None, Some, Ok, Err, IfSome, slice_get}
-use Rattle.std.specs.Option.{option_map}
+-- Files opened one after the other: for the calls that open a command's files.
+use Rattle.std.proofs.Common.{◌≡◌, ℕ, zero, suc, ◌<◌, ◌≤◌, List, [], ◌∷◌, ◌++◌, length, length-append, refl, sym, ap, ◌∙◌, arith, inr, subst}
+use Rattle.std.specs.Prelude.{Some, Ok, Err, IfSome, slice_get}
 use Rattle.std.specs.declared.option.Option.{Option}
 use Rattle.std.specs.declared.result.Result.{Result}
-use Rattle.strand_base.specs.FilesSeen.{FilesSeen, Held, IsFile}
+use Rattle.std.proofs.lemmas.Option.{slice_get_within}
 use Rattle.strand_base.specs.Counts.{next}
-use Rattle.strand_base.specs.declared.files.FetchFault.{FetchFault}
-use Rattle.strand_base.specs.declared.files.FetchFault.TheVariants as faults
-use Rattle.strand_app.specs.declared.opening.OpenFault.{OpenFault}
-use Rattle.strand_app.specs.declared.opening.OpenFault.TheVariants.{Fetch, OutOfMemory}
-use Rattle.strand_app.specs.declared.opening.Opened.{Opened}
-use Rattle.strand_app.specs.declared.opening.Opened.TheVariants.{Bad}
-use Rattle.strand_app.specs.Fetching.{FetchesOne}
-use Rattle.strand_app.specs.Files.{IsContent, AreFiles, AreRead, fetched, FetchesFirst, FetchFails}
-use Rattle.strand_app.specs.Inputs.{Inputs, bad}
-use Rattle.strand_app.specs.Opening.{ReadsFile, Reads, Opens, FailsAt, FailsToOpen, OpensTo, inputs_in, fault_of}
-use Rattle.strand_app.specs.Told.{Told}
+use Rattle.strand_base.specs.FilesSeen.{FilesSeen, Held, IsFile}
+use Rattle.strand_report.specs.declared.refusal.ContentFault.{ContentFault}
+use Rattle.strand_report.specs.declared.refusal.Refusal.{Refusal}
+use Rattle.strand_app.specs.declared.fetching.OpenFault.{OpenFault}
+use Rattle.strand_app.specs.declared.fetching.OpenFault.TheVariants.{Fetch, Refused, OutOfMemory}
+use Rattle.strand_app.specs.Fetching.{FetchesOne, FetchGives, FetchesFile}
+use Rattle.strand_app.specs.Files.{AreFirst, fetched, FetchesFirst, WantsNext, FetchFails, FetchesFew, Opened}
+use Rattle.strand_app.specs.Opening.{OpensTo}
+use Rattle.strand_app.specs.Reads.{Contents, Reads, in_file, file, then_reads}
 
--- something stands under each name, where it is told
-pub any_content : (told : Option Held) (name : List ℕ) → (content : List ℕ) × IsContent told name content
-any_content None name = ([], tt)
-any_content (Some held) name = go (held name)
-  where
-    go : (found : Option (List ℕ)) → (content : List ℕ) × IfSome found (λ bytes. bytes ≡ content)
-    go None = ([], tt)
-    go (Some bytes) = (bytes, refl)
+-- what is read first is fetched, whatever comes behind it
+pub reads_more : {V W : Type 0} (n : ℕ) (result : Result V Refusal) (next : V → Reads W) → n ≤ (then_reads n result next).fetches
+reads_more n (Ok value) next = omega arith
+reads_more n (Err refused) next = omega arith
 
-pub any_contents : (told : Option Held) (names : List (List ℕ)) → (contents : List (List ℕ)) × AreFiles told names contents
-any_contents told [] = ([], tt)
-any_contents told (name ∷ names) = let first = any_content told name in let rest = any_contents told names in (first.0 ∷ rest.0, (first.1, rest.1))
-
--- what a file holds stands under its name
-pub content_of : (told : Option Held) (name content : List ℕ) → IsFile told name content → IsContent told name content
-content_of None name content is = tt
-content_of (Some held) name content is = rw is refl
-
--- one file was fetched
-pub fetched_first : (names contents : List (List ℕ)) (before first : FilesSeen) → FetchesOne before first → first.last_failed ≡ before.last_failed → AreRead before.told names contents 1
-    → FetchesFirst names contents before first 1
-fetched_first names contents before first one kept read = record { told = one.told; later = one.later; count = one.count; last_failed = kept; read = read }
+-- one content more
+are_more : (told : Option Held) (names : List (List ℕ)) (contents : Contents) (name content : List ℕ) → AreFirst told names contents → slice_get names (length contents) ≡ Some name → IsFile told name content
+    → AreFirst told names (contents ++ content ∷ [])
+are_more told [] [] name content first at is = cc
+are_more told (n ∷ names) [] name content first at is = let same : n ≡ name = cc in (subst (λ (m : List ℕ). IsFile told m content) (sym same) is, tt)
+are_more told [] (c ∷ contents) name content first at is = absurd first
+are_more told (n ∷ names) (c ∷ contents) name content first at is = (first.0, are_more told names contents name content first.1 at is)
 
 -- no file was fetched
-pub fetched_none : (names contents : List (List ℕ)) (before : FilesSeen) → FetchesFirst names contents before before 0
-fetched_none names contents before = record { told = refl; later = omega arith; count = refl; last_failed = refl; read = tt }
+pub first_none : (names : List (List ℕ)) (before : FilesSeen) → FetchesFirst names before before []
+first_none names before = record { first = tt; told = refl; later = omega arith; count = refl; last_failed = refl; untouched = λ e. refl }
 
--- a fetch before others
-fetched_next : (n count : ℕ) → fetched n (next count) ≡ next (fetched n count)
-fetched_next zero count = refl
-fetched_next (suc n) count = ap next (fetched_next n count)
+module _ (names : List (List ℕ)) (before between after : FilesSeen) (contents : Contents) (name : List ℕ) (first : FetchesFirst names before between contents) (at : slice_get names (length contents) ≡ Some name)
+    (one : FetchesOne between after) where
+  long : (content : List ℕ) → length (contents ++ content ∷ []) ≡ suc (length contents)
+  long content = length-append contents (content ∷ []) ∙ omega arith
 
-module _ (told : Told) (n size : ℕ) (name : List ℕ) (names : List (List ℕ)) (says : List (List ℕ) → Inputs) (fetches : List (List ℕ) → ℕ) (before between : FilesSeen) (one : FetchesOne before between) where
-  -- the fetch of the first of the files failed
-  pub fails_here : {V W : Type 0} (rule : List ℕ → Option V) (view : W → V) (fault : FetchFault) → Reads rule view name before between (Err fault)
-      → ((content : List ℕ) (contents : List (List ℕ)) → 1 ≤ fetches (content ∷ contents)) → OpensTo told n size (name ∷ names) says fetches before between (Err (fault_of fault (n + 1)))
-  fails_here rule view faults.OutOfMemory failed wants = record { later = one.later; opens = tt; ready = tt; fails = tt }
-  fails_here rule view faults.TooLong failed wants = absurd failed
-  fails_here rule view faults.Failed failed wants =
-      let first = any_content before.told name in
-      let rest = any_contents before.told names in
+  count_more : after.fetches ≡ fetched (suc (length contents)) before.fetches
+  count_more = one.count ∙ ap next first.count
+
+  -- one file more was fetched
+  pub first_more : (content : List ℕ) → FetchGives name content between after → FetchesFirst names before after (contents ++ content ∷ [])
+  first_more content gives = record {
+    first = are_more before.told names contents name content first.first at (subst (λ (t : Option Held). IsFile t name content) first.told gives.file);
+    told = one.told ∙ first.told;
+    later = omega (arith, first.later, one.later);
+    count = count_more ∙ ap (λ (n : ℕ). fetched n before.fetches) (sym (long content));
+    last_failed = gives.last_failed ∙ first.last_failed;
+    untouched = λ e. let none : suc (length contents) ≡ 0 = sym (long content) ∙ ap length e in absurd (omega (arith, none));
+  }
+
+  -- what came of it, where it gave nothing
+  module _ {V W X Y : Type 0} (reads : Contents → Reads V) (view : W → V) (k : ℕ) (rule : List ℕ → Result X ContentFault) (view_one : Y → X) (number : k ≡ suc (length contents))
+      (wanted : WantsNext reads contents)
+      (refuses : (content : List ℕ) (refused : Refusal) → in_file k (rule content) ≡ Err refused → (others : Contents) → reads ((contents ++ content ∷ []) ++ others) ≡ record { fetches = length (contents ++ content ∷ []); result = Err refused }) where
+    pub fails_next : (fault : OpenFault) → FetchesFile k rule view_one name between after (Err fault) → OpensTo names reads view before after (Err fault)
+    fails_next (Refused refused) fetches =
+        let is = fetches.1 in
+        let more = first_more is.content is.gives in
+        record { contents = contents ++ is.content ∷ []; says = record { first = more.first; is = refuses is.content refused is.is }; fetched = more; all = tt }
+    fails_next (Fetch j) fetches = record {
+      contents = contents;
+      number = fetches.1.0 ∙ number;
+      exists = slice_get_within names (length contents) name at;
+      wanted = wanted;
+      fails = record {
+        first = first.first;
+        told = one.told ∙ first.told;
+        later = omega (arith, first.later, one.later);
+        rose = omega (arith, first.later, fetches.1.1.rose);
+        count = count_more;
+        name = subst (λ (t : Option Held). IfSome t (λ _. after.last_failed ≡ slice_get names (length contents))) first.told
+            (subst (λ (found : Option (List ℕ)). IfSome between.told (λ _. after.last_failed ≡ found)) (sym at) fetches.1.1.name_is);
+      };
+    }
+    fails_next OutOfMemory fetches =
+        record { contents = contents; wanted = wanted; few = record { first = first.first; told = one.told ∙ first.told; later = omega (arith, first.later, one.later); few = inr count_more } }
+
+-- the one file of a command
+module _ {V W : Type 0} (rule : List ℕ → Result V ContentFault) (view : W → V) (name : List ℕ) (before after : FilesSeen) where
+  pub one_opened : (value : W) → FetchesFile 1 rule view name before after (Ok value) → Opened (name ∷ []) (file 1 rule) before after (Ok (view value))
+  one_opened value fetches =
+      let more = first_more (name ∷ []) before before after [] name (first_none (name ∷ []) before) refl fetches.0 fetches.1.content fetches.1.gives in
       record {
-        later = one.later;
-        opens = tt;
-        ready = tt;
-        fails = (
-          1,
-          refl,
-          record {
-            contents = first.0 ∷ rest.0;
-            files = (first.1, rest.1);
-            fetched = (omega arith, wants first.0 rest.0);
-            fails = record { told = one.told; rose = failed.rose; count = one.count; name = failed.name_is; read = tt };
-          },
-        );
+        contents = fetches.1.content ∷ [];
+        says = record { first = more.first; is = λ others. ap (λ (r : Result V ContentFault). record { fetches = 1; result = in_file 1 r }) fetches.1.is };
+        fetched = more;
+        all = refl;
       }
 
-  module _ {V : Type 0} (rule : List ℕ → Option V) (said : Option V) (read : ReadsFile rule name before between said) where
-    -- the first of the files is at fault
-    pub bad_here : (k : ℕ) → ((contents : List (List ℕ)) → says (read.content ∷ contents) ≡ bad k) → ((contents : List (List ℕ)) → fetches (read.content ∷ contents) ≡ 1)
-        → OpensTo told n size (name ∷ names) says fetches before between (Ok (Bad k))
-    bad_here k is wants =
-        let any = any_contents before.told names in
-        record {
-          later = one.later;
-          opens = record {
-            contents = read.content ∷ any.0;
-            files = (content_of before.told name read.content read.file, any.1);
-            first = rw (wants any.0) (fetched_first (name ∷ names) (read.content ∷ any.0) before between one read.last_failed (read.file, tt));
-            is = is any.0;
-          };
-          ready = tt;
-          fails = tt;
-        }
+  pub one_failed : (fault : OpenFault) → FetchesFile 1 rule view name before after (Err fault) → OpensTo (name ∷ []) (file 1 rule) view before after (Err fault)
+  one_failed fault fetches =
+      fails_next (name ∷ []) before before after [] name (first_none (name ∷ []) before) refl fetches.0 (file 1 rule) view 1 rule view refl (λ others. omega arith)
+      (λ content refused is others. ap (λ (r : Result V Refusal). record { fetches = 1; result = r }) is) fault fetches
 
-    module _ (later : List (List ℕ) → Inputs) (more : List (List ℕ) → ℕ) (after : FilesSeen) (is : (contents : List (List ℕ)) → says (read.content ∷ contents) ≡ later contents)
-        (wants : (contents : List (List ℕ)) → fetches (read.content ∷ contents) ≡ suc (more contents)) where
-      first_more : (contents : List (List ℕ)) (m : ℕ) → FetchesFirst names contents between after m → FetchesFirst (name ∷ names) (read.content ∷ contents) before after (suc m)
-      first_more contents m rest =
-          record {
-            told = rest.told ∙ one.told;
-            later = omega (arith, one.later, rest.later);
-            count = rest.count ∙ ap (fetched m) one.count ∙ fetched_next m before.fetches;
-            last_failed = rest.last_failed ∙ read.last_failed;
-            read = (read.file, subst (λ (t : Option Held). AreRead t names contents m) one.told rest.read);
-          }
+-- the same first files among more names
+module _ (names more : List (List ℕ)) (before after : FilesSeen) (contents : Contents) where
+  among : (told : Option Held) (names : List (List ℕ)) (contents : Contents) → AreFirst told names contents → AreFirst told (names ++ more) contents
+  among told names [] first = tt
+  among told [] (c ∷ contents) first = absurd first
+  among told (n ∷ names) (c ∷ contents) first = (first.0, among told names contents first.1)
 
-      opens_more : (inputs : Inputs) → Opens names later more between after inputs → Opens (name ∷ names) says fetches before after inputs
-      opens_more inputs rest =
-          record {
-            contents = read.content ∷ rest.contents;
-            files = (content_of before.told name read.content read.file, subst (λ (t : Option Held). AreFiles t names rest.contents) one.told rest.files);
-            first = rw (wants rest.contents) (first_more rest.contents (more rest.contents) rest.first);
-            is = is rest.contents ∙ rest.is;
-          }
+  named : (names : List (List ℕ)) (n : ℕ) → n < length names → slice_get (names ++ more) n ≡ slice_get names n
+  named [] n lt = absurd (omega (arith, lt))
+  named (name ∷ names) zero lt = refl
+  named (name ∷ names) (suc n) lt = named names n (omega (arith, lt))
 
-      failed_more : (contents : List (List ℕ)) (k : ℕ) → FetchFails names contents between after (suc k) → FetchFails (name ∷ names) (read.content ∷ contents) before after (suc (suc k))
-      failed_more contents k fails =
-          let back : suc (suc k) - 1 ≡ suc k = omega arith in
-          let one_back : suc k - 1 ≡ k = omega arith in
-          record {
-            told = fails.told ∙ one.told;
-            rose = omega (arith, one.later, fails.rose);
-            count = fails.count ∙ ap (fetched (suc k)) one.count ∙ fetched_next (suc k) before.fetches;
-            name = subst (λ (t : Option Held). IfSome t (λ _. after.last_failed ≡ slice_get (name ∷ names) (suc (suc k) - 1))) one.told (rw back (rw one_back at fails.name));
-            read = rw back (read.file, subst (λ (t : Option Held). AreRead t names contents k) one.told (rw one_back at fails.read));
-          }
+  pub first_among : FetchesFirst names before after contents → FetchesFirst (names ++ more) before after contents
+  first_among first =
+      record { first = among before.told names contents first.first; told = first.told; later = first.later; count = first.count; last_failed = first.last_failed; untouched = first.untouched }
 
-      fails_more : (k : ℕ) → FailsAt names more between after k → FailsAt (name ∷ names) fetches before after (suc k)
-      fails_more zero rest = let none = rest.fetched.0 in absurd (omega (arith, none))
-      fails_more (suc k) rest =
-          record {
-            contents = read.content ∷ rest.contents;
-            files = (content_of before.told name read.content read.file, subst (λ (t : Option Held). AreFiles t names rest.contents) one.told rest.files);
-            fetched = (omega arith, omega (arith, rest.fetched.1, wants rest.contents));
-            fails = failed_more rest.contents k rest.fails;
-          }
+  fails_among : length contents < length names → FetchFails names before after contents → FetchFails (names ++ more) before after contents
+  fails_among lt fails = record {
+    first = among before.told names contents fails.first;
+    told = fails.told;
+    later = fails.later;
+    rose = fails.rose;
+    count = fails.count;
+    name = subst (λ (found : Option (List ℕ)). IfSome before.told (λ _. after.last_failed ≡ found)) (sym (named names (length contents) lt)) fails.name;
+  }
 
-      fails_open : (fault : OpenFault) → FailsToOpen (n + 1) names more between after fault → FailsToOpen n (name ∷ names) fetches before after fault
-      fails_open (Fetch file) rest = (suc rest.0, omega (arith, rest.1), fails_more rest.0 rest.2)
-      fails_open OutOfMemory rest = tt
+  few_among : FetchesFew names before after contents → FetchesFew (names ++ more) before after contents
+  few_among few = record { first = among before.told names contents few.first; told = few.told; later = few.later; few = few.few }
 
-      -- the first of the files is in order, and this comes of the others
-      pub then_others : (result : Result Opened OpenFault) → OpensTo told (n + 1) size names later more between after result → OpensTo told n size (name ∷ names) says fetches before after result
-      then_others (Ok opened) rest = record { later = omega (arith, one.later, rest.later); opens = opens_more (inputs_in opened) rest.opens; ready = rest.ready; fails = tt }
-      then_others (Err fault) rest = record { later = omega (arith, one.later, rest.later); opens = tt; ready = tt; fails = fails_open fault rest.fails }
+-- what came of files that were not read to their end, where others are read behind them
+module _ {V W X Y : Type 0} (names more : List (List ℕ)) (reads : Contents → Reads V) (next : Contents → V → Reads X) (view : W → V) (view_all : Y → X) (before after : FilesSeen) where
+  abbrev all : Contents → Reads X
+  all contents = then_reads (reads contents).fetches (reads contents).result (next contents)
 
--- no files stand before all of them
-pub first_fails : (names : List (List ℕ)) (fetches : List (List ℕ) → ℕ) (before after : FilesSeen) (file : ℕ) → FailsToOpen 0 names fetches before after (Fetch file) → FailsAt names fetches before after file
-first_fails names fetches before after file fails =
-    let same : fails.0 ≡ file = omega (arith, fails.1) in subst (FailsAt names fetches before after) same fails.2
+  wants_all : (contents : Contents) → WantsNext reads contents → WantsNext all contents
+  wants_all contents wanted others = omega (arith, wanted others, reads_more (reads (contents ++ others)).fetches (reads (contents ++ others)).result (next (contents ++ others)))
 
--- the crash image was the last of the files
-pub map_same : {V : Type 0} (o : Option V) → option_map (λ (x : V). x) o ≡ o
-map_same None = refl
-map_same (Some x) = refl
+  pub fails_all : (fault : OpenFault) → OpensTo names reads view before after (Err fault) → OpensTo (names ++ more) all view_all before after (Err fault)
+  fails_all (Refused refused) opened = record {
+    contents = opened.contents;
+    says = record {
+      first = (first_among names more before after opened.contents opened.fetched).first;
+      is = λ others. ap (λ (r : Reads V). then_reads r.fetches r.result (next (opened.contents ++ others))) (opened.says.is others);
+    };
+    fetched = first_among names more before after opened.contents opened.fetched;
+    all = tt;
+  }
+  fails_all (Fetch j) missed = record {
+    contents = missed.contents;
+    number = missed.number;
+    exists = omega (arith, missed.exists, length-append names more);
+    wanted = wants_all missed.contents missed.wanted;
+    fails = fails_among names more before after missed.contents missed.exists missed.fails;
+  }
+  fails_all OutOfMemory unread = record { contents = unread.contents; wanted = wants_all unread.contents unread.wanted; few = few_among names more before after unread.contents unread.few }

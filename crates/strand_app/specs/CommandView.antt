@@ -1,36 +1,39 @@
 -- The code's command, as the definitions have it.
-use Rattle.std.specs.Prelude.{ℕ, List, [], ◌∷◌}
+use Rattle.std.specs.Prelude.{ℕ, List, map, String, string_bytes}
+use Rattle.std.specs.declared.alloc.Global.{Global}
+use Rattle.std.specs.declared.option.Option.{Option}
+use Rattle.strand_modules.specs.Bank.{BankSeen}
 use Rattle.strand_app.specs.declared.command.Command.{Command as CodeCommand}
-use Rattle.strand_app.specs.declared.command.Command.TheVariants.{Asm, List as ListImage, Run}
+use Rattle.strand_app.specs.declared.command.Command.TheVariants as code
 use Rattle.strand_app.specs.declared.command.RunWords.{RunWords}
-use Rattle.strand_app.specs.declared.command.Telling.{Telling}
-use Rattle.strand_app.specs.declared.command.Telling.TheVariants.{Report, Verdict, Events}
-use Rattle.strand_app.specs.Command.{Command, asm, list, run, judge, trace}
-use Rattle.strand_app.specs.Told.{Told, report, verdict, events}
-
--- a command that steps a machine
-abbrev pub view_run : Telling → RunWords → Command
-view_run Report words = run words.machine.now words.image.now words.schedule.now words.stop
-view_run (Verdict crash) words = judge words.machine.now words.image.now words.schedule.now words.stop crash.now
-view_run Events words = trace words.machine.now words.image.now words.schedule.now words.stop
+use Rattle.strand_app.specs.Command.{Command, command_of, asm, list, run, judge, trace}
+use Rattle.strand_app.specs.Commands.Judge.{judge_rule}
+use Rattle.strand_app.specs.Commands.Run.{run_rule}
+use Rattle.strand_app.specs.Commands.Trace.{trace_rule}
+use Rattle.strand_app.specs.Rule.{Rule}
+use Rattle.strand_app.specs.RuleOf.{rule_of}
 
 abbrev pub view : CodeCommand → Command
-view (Asm text) = asm text.now
-view (ListImage image) = list image.now
-view (Run telling words) = view_run telling words
+view (code.Asm text) = asm text.now
+view (code.List image) = list image.now
+view (code.Run words) = run words.machine.now words.image.now words.schedule.now words.stop
+view (code.Judge words crash) = judge words.machine.now words.image.now words.schedule.now words.stop crash.now
+view (code.Trace words) = trace words.machine.now words.image.now words.schedule.now words.stop
 
--- what such a command tells
-abbrev pub told_by : Telling → Told
-told_by Report = report
-told_by (Verdict crash) = verdict
-told_by Events = events
+-- the rules of those that step a machine
+abbrev pub run_rule_in : RunWords → BankSeen → Rule
+run_rule_in words = run_rule words.machine.now words.image.now words.schedule.now words.stop
 
--- the name of its crash image, if it has one
-abbrev pub crash_name : Telling → List (List ℕ)
-crash_name Report = []
-crash_name (Verdict crash) = crash.now ∷ []
-crash_name Events = []
+abbrev pub judge_rule_in : RunWords → List ℕ → BankSeen → Rule
+judge_rule_in words crash = judge_rule words.machine.now words.image.now words.schedule.now words.stop crash
 
--- the names of its files, in order
-abbrev pub names_in : Telling → RunWords → List (List ℕ)
-names_in telling words = words.machine.now ∷ words.image.now ∷ words.schedule.now ∷ crash_name telling
+abbrev pub trace_rule_in : RunWords → BankSeen → Rule
+trace_rule_in words = trace_rule words.machine.now words.image.now words.schedule.now words.stop
+
+-- the command that the words are
+abbrev pub asked : List (String Global) → Option Command
+asked words = command_of (map string_bytes words)
+
+-- and its rule
+abbrev pub asked_rule : List (String Global) → BankSeen → Rule
+asked_rule words bank = rule_of (asked words) bank

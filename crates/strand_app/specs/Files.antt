@@ -1,44 +1,76 @@
--- The contents of a command's files, and the fetches of them.
-use Rattle.std.specs.Prelude.{◌≡◌, ℕ, zero, suc, ◌-◌, ◌≤◌, List, [], ◌∷◌, IfSome, slice_get}
+-- The files of a command, fetched one after the other.
+use Rattle.std.specs.Prelude.{◌≡◌, ◌⊎◌, ℕ, zero, suc, ◌<◌, ◌≤◌, List, [], ◌∷◌, ◌++◌, length, IfSome, IfOk, slice_get}
 use Rattle.std.specs.declared.option.Option.{Option}
+use Rattle.std.specs.declared.result.Result.{Result}
 use Rattle.strand_base.specs.FilesSeen.{FilesSeen, Held, IsFile}
 use Rattle.strand_base.specs.Counts.{Rose, next}
+use Rattle.strand_report.specs.declared.refusal.Refusal.{Refusal}
+use Rattle.strand_app.specs.Reads.{Contents, Reads}
 
--- Where files are told, this is what stands under the name, if anything does.
-abbrev pub IsContent : Option Held → List ℕ → List ℕ → Type 0
-IsContent told name content = IfSome told (λ held. IfSome (held name) (λ bytes. bytes ≡ content))
-
--- the contents of these files
-abbrev pub AreFiles : Option Held → List (List ℕ) → List (List ℕ) → Type 0
-AreFiles told [] [] = Unit {0}
-AreFiles told [] (content ∷ contents) = ⊥
-AreFiles told (name ∷ names) [] = ⊥
-AreFiles told (name ∷ names) (content ∷ contents) = IsContent told name content × AreFiles told names contents
-
--- The first so many of these files are there, and these are their contents.
-abbrev pub AreRead : Option Held → List (List ℕ) → List (List ℕ) → ℕ → Type 0
-AreRead told names contents zero = Unit {0}
-AreRead told [] contents (suc n) = ⊥
-AreRead told (name ∷ names) [] (suc n) = ⊥
-AreRead told (name ∷ names) (content ∷ contents) (suc n) = IsFile told name content × AreRead told names contents n
+-- Where files are told, the first of these names have these contents.
+abbrev pub AreFirst : Option Held → List (List ℕ) → Contents → Type 0
+AreFirst told names [] = Unit {0}
+AreFirst told [] (content ∷ contents) = ⊥
+AreFirst told (name ∷ names) (content ∷ contents) = IsFile told name content × AreFirst told names contents
 
 -- so many fetches after a count of them
 abbrev pub fetched : ℕ → ℕ → ℕ
 fetched zero count = count
 fetched (suc n) count = next (fetched n count)
 
--- The first so many files were fetched, each once, and no fetch failed.
-pub record FetchesFirst (names contents : List (List ℕ)) (before after : FilesSeen) (n : ℕ) : Type 0 where
-  pub told : after.told ≡ before.told
-  pub later : before.faults ≤ after.faults
-  pub count : after.fetches ≡ fetched n before.fetches
-  pub last_failed : after.last_failed ≡ before.last_failed
-  pub read : AreRead before.told names contents n
+module _ (names : List (List ℕ)) (before after : FilesSeen) where
+  -- The first files were fetched, each once and in order, no fetch failed, and these are their contents.
+  pub record FetchesFirst (contents : Contents) : Type 0 where
+    pub first : AreFirst before.told names contents
+    pub told : after.told ≡ before.told
+    pub later : before.faults ≤ after.faults
+    pub count : after.fetches ≡ fetched (length contents) before.fetches
+    pub last_failed : after.last_failed ≡ before.last_failed
+    pub untouched : contents ≡ [] → after ≡ before
 
--- The fetch of file k failed: it was the k-th, the count of faults rose, and the name is that of file k.
-pub record FetchFails (names contents : List (List ℕ)) (before after : FilesSeen) (k : ℕ) : Type 0 where
-  pub told : after.told ≡ before.told
-  pub rose : Rose before.faults after.faults
-  pub count : after.fetches ≡ fetched k before.fetches
-  pub name : IfSome before.told (λ _. after.last_failed ≡ slice_get names (k - 1))
-  pub read : AreRead before.told names contents (k - 1)
+  -- The fetch of the file behind the first ones failed: the count of faults rose, and the name that is left is that file's.
+  pub record FetchFails (contents : Contents) : Type 0 where
+    pub first : AreFirst before.told names contents
+    pub told : after.told ≡ before.told
+    pub later : before.faults ≤ after.faults
+    pub rose : Rose before.faults after.faults
+    pub count : after.fetches ≡ fetched (suc (length contents)) before.fetches
+    pub name : IfSome before.told (λ _. after.last_failed ≡ slice_get names (length contents))
+
+  -- No memory was left with the file behind the first ones, which was fetched once more at most.
+  pub record FetchesFew (contents : Contents) : Type 0 where
+    pub first : AreFirst before.told names contents
+    pub told : after.told ≡ before.told
+    pub later : before.faults ≤ after.faults
+    pub few : (after.fetches ≡ fetched (length contents) before.fetches) ⊎ (after.fetches ≡ fetched (suc (length contents)) before.fetches)
+
+-- The first files have these contents, and whatever the others hold, this is what they say.
+pub record Says {V : Type 0} (names : List (List ℕ)) (reads : Contents → Reads V) (told : Option Held) (contents : Contents) (result : Result V Refusal) : Type 0 where
+  pub first : AreFirst told names contents
+  pub is : (others : Contents) → reads (contents ++ others) ≡ record { fetches = length contents; result = result }
+
+-- Whatever the files behind the first ones hold, the next of them is fetched.
+abbrev pub WantsNext : {V : Type 0} → (Contents → Reads V) → Contents → Type 0
+WantsNext reads contents = (others : Contents) → length contents < (reads (contents ++ others)).fetches
+
+module _ {V : Type 0} (names : List (List ℕ)) (reads : Contents → Reads V) (before after : FilesSeen) where
+  -- As many files were fetched as were wanted, and this is what they say. Where they are not refused these are all.
+  pub record Opened (result : Result V Refusal) : Type 0 where
+    pub contents : Contents
+    pub says : Says names reads before.told contents result
+    pub fetched : FetchesFirst names before after contents
+    pub all : IfOk result (λ _. length contents ≡ length names)
+
+  -- The fetch of file k failed, which was wanted.
+  pub record Missed (k : ℕ) : Type 0 where
+    pub contents : Contents
+    pub number : k ≡ suc (length contents)
+    pub exists : length contents < length names
+    pub wanted : WantsNext reads contents
+    pub fails : FetchFails names before after contents
+
+  -- No memory was left on the way.
+  pub record Unread : Type 0 where
+    pub contents : Contents
+    pub wanted : WantsNext reads contents
+    pub few : FetchesFew names before after contents

@@ -1,64 +1,94 @@
--- The whole call, with one case for each command.
-use Rattle.std.specs.Prelude.{◌≡◌, ◌⊎◌, ℕ, List, [], ◌∷◌, length, Some, None}
+-- The whole call, by the rule of its command.
+use Rattle.std.specs.Prelude.{◌≡◌, ◌⊎◌, ℕ, Ok, Err}
 use Rattle.std.specs.declared.option.Option.{Option}
-use Rattle.strand_base.specs.SinkSeen.{SinkSeen}
-use Rattle.strand_inputs.specs.declared.stop.Stop.{Stop}
-use Rattle.strand_report.specs.FaultLines.{words_fault}
+use Rattle.std.specs.declared.result.Result.{Result}
+use Rattle.strand_base.specs.declared.out_of_memory.OutOfMemory.{OutOfMemory}
 use Rattle.strand_modules.specs.Bank.{Keeps}
+use Rattle.strand_report.specs.FaultLines.{file_fault}
+use Rattle.strand_report.specs.Refusals.{refusal_line}
+use Rattle.strand_report.specs.declared.refusal.Refusal.{Refusal}
+use Rattle.strand_run.specs.Fault.{Course}
+use Rattle.strand_app.specs.declared.status.Made.{Made}
 use Rattle.strand_app.specs.declared.status.Status.{Status}
 use Rattle.strand_app.specs.declared.status.Status.TheVariants as status
-use Rattle.strand_app.specs.Command.{Command, asm, list, run, judge, trace}
-use Rattle.strand_app.specs.Convert.{Conversion, asm_text, list_text, convert_answer, one_fetch, ConvertAllows, ConvertFinds, ConvertLeaves}
 use Rattle.strand_app.specs.Ends.{Ends}
-use Rattle.strand_app.specs.Inputs.{run_inputs, fetches_of}
-use Rattle.strand_app.specs.Told.{Told, report, verdict, events}
-use Rattle.strand_app.specs.RunAnswer.{run_answer, RunAllows, RunFinds, RunLeaves, InputsMayLeave}
-use Rattle.strand_app.specs.Files.{AreFiles}
-use Rattle.strand_app.specs.World.{World, Makes}
+use Rattle.strand_app.specs.Files.{Opened, Missed, Unread}
+use Rattle.strand_app.specs.Answers.{refusal_status}
+use Rattle.strand_app.specs.Rule.{Rule, Text, ShownBy}
+use Rattle.strand_app.specs.World.{World, Outside}
 
--- a command that makes a text of one file
-abbrev pub ConvertMakes : Conversion → List ℕ → World → World → Status → List ℕ → Type 0
-ConvertMakes f name before after end text = Makes (name ∷ []) (convert_answer f) one_fetch ConvertAllows ConvertFinds ConvertLeaves before after end text
+module _ (r : Rule) (before after : World) where
+  -- The files were not refused: the run took one course that it may take, and a text was made of it.
+  pub record Makes (end : Status) (text : Text) : Type 0 where
+    pub found : r.Found
+    pub opened : Opened r.names r.opens before.files after.files (Ok found)
+    pub fault : Option Course
+    pub allowed : r.Allows found fault
+    pub shown : ShownBy before.bank after.bank fault
+    pub kept : Keeps before.bank after.bank
+    pub leaves : r.Leaves found fault after.bank
+    pub puts : r.Puts found fault end text
 
--- a command that steps a machine
-abbrev pub RunMakes : Told → List (List ℕ) → Stop → World → World → Status → List ℕ → Type 0
-RunMakes told names stop before after end text =
-    Makes names (run_answer told before.bank.size stop) fetches_of (RunAllows before.bank.size (length before.bank.faults) stop) (RunFinds told before.bank.size stop) (RunLeaves before.bank.size stop) before after end text
+  -- What was given is refused, and the bank wasn't touched.
+  pub record Refuses (end : Status) (text : Text) : Type 0 where
+    pub refused : Refusal
+    pub opened : Opened r.names r.opens before.files after.files (Err refused)
+    pub same : after.bank ≡ before.bank
+    pub status : end ≡ refusal_status refused
+    pub line : text ≡ refusal_line refused
 
--- how the call ends and what it puts if the sink doesn't fail
-abbrev pub CommandMakes : Option Command → World → World → Status → List ℕ → Type 0
-CommandMakes None before after end text = (end ≡ status.Words) × (text ≡ words_fault) × (after ≡ before)
-CommandMakes (Some (asm text)) before after end put = ConvertMakes asm_text text before after end put
-CommandMakes (Some (list image)) before after end put = ConvertMakes list_text image before after end put
-CommandMakes (Some (run machine image schedule stop)) before after end put = RunMakes report (machine ∷ image ∷ schedule ∷ []) stop before after end put
-CommandMakes (Some (judge machine image schedule stop crash)) before after end put = RunMakes verdict (machine ∷ image ∷ schedule ∷ crash ∷ []) stop before after end put
-CommandMakes (Some (trace machine image schedule stop)) before after end put = RunMakes events (machine ∷ image ∷ schedule ∷ []) stop before after end put
+  -- The fetch of a file failed that was wanted, and the bank wasn't touched.
+  pub record Misses (end : Status) (text : Text) : Type 0 where
+    pub file : ℕ
+    pub missed : Missed r.names r.opens before.files after.files file
+    pub same : after.bank ≡ before.bank
+    pub status : end ≡ status.FileFault
+    pub line : text ≡ file_fault file
 
--- what the bank may hold where no memory was left for a command that steps a machine
-pub record RunMayLeave (names : List (List ℕ)) (stop : Stop) (before after : World) : Type 0 where
-  pub contents : List (List ℕ)
-  pub files : AreFiles before.files.told names contents
-  pub kept : Keeps before.bank after.bank
-  pub leaves : InputsMayLeave (run_inputs before.bank.size stop contents) before.bank after.bank
+  -- what a command comes to, if the sink doesn't fail
+  abbrev pub ComesTo : Status → Text → Type 0
+  ComesTo end text = Makes end text ⊎ (Refuses end text ⊎ Misses end text)
 
-abbrev pub CommandMayLeave : Command → World → World → Type 0
-CommandMayLeave (asm text) before after = after.bank ≡ before.bank
-CommandMayLeave (list image) before after = after.bank ≡ before.bank
-CommandMayLeave (run machine image schedule stop) before after = RunMayLeave (machine ∷ image ∷ schedule ∷ []) stop before after
-CommandMayLeave (judge machine image schedule stop crash) before after = RunMayLeave (machine ∷ image ∷ schedule ∷ crash ∷ []) stop before after
-CommandMayLeave (trace machine image schedule stop) before after = RunMayLeave (machine ∷ image ∷ schedule ∷ []) stop before after
+  -- No memory was left for a file, or behind one that didn't come.
+  pub record StopsReading : Type 0 where
+    pub unread : Unread r.names r.opens before.files after.files
+    pub same : after.bank ≡ before.bank
 
--- No memory was left, and nothing was put.
-abbrev pub GivesUp : Option Command → World → World → SinkSeen → SinkSeen → Status → Type 0
-GivesUp None before after sink sink' result = ⊥
-GivesUp (Some command) before after sink sink' result = (result ≡ status.Memory) × (sink' ≡ sink) × CommandMayLeave command before after
+  -- No memory was left for the line of a refusal.
+  pub record StopsRefusing : Type 0 where
+    pub refused : Refusal
+    pub opened : Opened r.names r.opens before.files after.files (Err refused)
+    pub same : after.bank ≡ before.bank
 
-pub record EndsAs (command : Option Command) (before after : World) (sink sink' : SinkSeen) (result : Status) : Type 0 where
-  pub end : Status
-  pub text : List ℕ
-  pub made : CommandMakes command before after end text
-  pub put : Ends end text sink sink' result
+  -- No memory was left behind the files.
+  pub record StopsRunning : Type 0 where
+    pub found : r.Found
+    pub opened : Opened r.names r.opens before.files after.files (Ok found)
+    pub kept : Keeps before.bank after.bank
+    pub leaves : r.MayLeave found after.bank
 
--- the whole call
-abbrev pub Runs : Option Command → World → World → SinkSeen → SinkSeen → Status → Type 0
-Runs command before after sink sink' result = GivesUp command before after sink sink' result ⊎ EndsAs command before after sink sink' result
+  abbrev pub Stops : Type 0
+  Stops = StopsRunning ⊎ (StopsRefusing ⊎ StopsReading)
+
+-- what comes of a command that is not put yet
+abbrev pub Comes : Rule → World → World → Result Made OutOfMemory → Type 0
+Comes r before after (Ok made) = ComesTo r before after made.status made.text.items
+Comes r before after (Err memory) = Stops r before after
+
+module _ (r : Rule) (before after : Outside) (result : Status) where
+  -- No memory was left, and nothing was put.
+  pub record GivesUp : Type 0 where
+    pub status : result ≡ status.Memory
+    pub nothing : after.sink ≡ before.sink
+    pub stops : Stops r before.world after.world
+
+  -- The text was made, and put as far as the sink took it.
+  pub record EndsAs : Type 0 where
+    pub end : Status
+    pub text : Text
+    pub made : ComesTo r before.world after.world end text
+    pub put : Ends end text before.sink after.sink result
+
+  -- the whole call
+  abbrev pub Runs : Type 0
+  Runs = GivesUp ⊎ EndsAs

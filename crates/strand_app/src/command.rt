@@ -1,7 +1,7 @@
-ghost use Rattle.std.specs.Prelude.{◌≡◌, map, string_bytes};
+ghost use Rattle.std.specs.Prelude.{◌≡◌};
 ghost use Rattle.std.specs.Option.{option_map};
-ghost use Rattle.strand_app.specs.Command.{one_file, three_files, four_files, command_of};
-ghost use Rattle.strand_app.specs.CommandView.{view};
+ghost use Rattle.strand_app.specs.Command.{one_file, three_files, four_files};
+ghost use Rattle.strand_app.specs.CommandView.{asked, view};
 
 use strand_inputs::{Stop, read_stop};
 
@@ -9,30 +9,15 @@ use strand_inputs::{Stop, read_stop};
 #[derive(Clone, Copy)]
 pub enum Command<'a> {
     /// `asm TEXT`: the image of an assembler text.
-    Asm {
-        text: &'a str,
-    },
+    Asm { text: &'a str },
     /// `list IMAGE`: the listing of an image.
-    List {
-        image: &'a str,
-    },
-    /// `run MACHINE IMAGE SCHEDULE STOP`, `judge MACHINE IMAGE SCHEDULE STOP CRASH` or
-    /// `trace MACHINE IMAGE SCHEDULE STOP`: steps a machine and tells something of it.
-    Run {
-        telling: Telling<'a>,
-        words: RunWords<'a>,
-    },
-}
-
-/// What a command tells of a run.
-#[derive(Clone, Copy)]
-pub enum Telling<'a> {
-    /// Its report.
-    Report,
-    /// The verdict on a crash image.
-    Verdict { crash: &'a str },
-    /// Its events, and the edges of their graph.
-    Events,
+    List { image: &'a str },
+    /// `run MACHINE IMAGE SCHEDULE STOP`: the report of a run.
+    Run { words: RunWords<'a> },
+    /// `judge MACHINE IMAGE SCHEDULE STOP CRASH`: the verdict on a crash image.
+    Judge { words: RunWords<'a>, crash: &'a str },
+    /// `trace MACHINE IMAGE SCHEDULE STOP`: the events of a run, and the edges of their graph.
+    Trace { words: RunWords<'a> },
 }
 
 /// The files of a run, and where it is cut off.
@@ -65,7 +50,8 @@ fn three_files<'a>(
     schedule: &'a str,
     stop: Stop,
 ) -> Option<Command<'a>>
-    ensures { option_map view result ≡ three_files word.now machine.now image.now schedule.now stop }
+    ensures { option_map view result
+        ≡ three_files word.now machine.now image.now schedule.now stop }
 {
     let words = RunWords {
         machine,
@@ -74,15 +60,9 @@ fn three_files<'a>(
         stop,
     };
     if word == "run" {
-        Some(Command::Run {
-            telling: Telling::Report,
-            words,
-        })
+        Some(Command::Run { words })
     } else if word == "trace" {
-        Some(Command::Run {
-            telling: Telling::Events,
-            words,
-        })
+        Some(Command::Trace { words })
     } else {
         None
     }
@@ -97,11 +77,12 @@ fn four_files<'a>(
     stop: Stop,
     crash: &'a str,
 ) -> Option<Command<'a>>
-    ensures { option_map view result ≡ four_files word.now machine.now image.now schedule.now crash.now stop }
+    ensures { option_map view result
+        ≡ four_files word.now machine.now image.now schedule.now crash.now stop }
 {
     if word == "judge" {
-        Some(Command::Run {
-            telling: Telling::Verdict { crash },
+        Some(Command::Judge {
+            crash,
             words: RunWords {
                 machine,
                 image,
@@ -116,7 +97,7 @@ fn four_files<'a>(
 
 /// The command that the words are. It takes no memory.
 pub fn read_command(words: &[String]) -> Option<Command<'_>>
-    ensures { option_map view result ≡ command_of (map string_bytes words.now) }
+    ensures { option_map view result ≡ asked words.now }
 {
     match words {
         [word, file] => one_file(word.as_str(), file.as_str()),

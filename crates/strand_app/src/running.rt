@@ -1,53 +1,75 @@
-ghost use Rattle.std.specs.Prelude.{take, IfOk, OnErr};
-ghost use Rattle.strand_app.specs.CommandView.{told_by, names_in};
-ghost use Rattle.strand_app.specs.Making.{MakesOnBank};
-ghost use Rattle.strand_app.specs.Opening.{AreReady, setup_in};
-ghost use Rattle.strand_app.specs.Runs.{RunMakes, RunMayLeave};
-ghost use Rattle.strand_app.specs.World.{world};
+ghost use Rattle.std.specs.Prelude.{IfOk, OnErr};
+ghost use Rattle.strand_app.specs.Opening.{IsReady, inputs_of};
+ghost use Rattle.strand_app.specs.Running.{Answers, RunsOnBank};
 ghost use Rattle.strand_modules.specs.Bank.{Keeps};
-ghost use Rattle.strand_run.specs.Outcome.{MayLeave};
+ghost use Rattle.strand_report.specs.FaultLines.{module_fault_line};
+ghost use Rattle.strand_run.specs.Outcome.{MayLeave, RunsTo};
 
-use crate::Made;
-use crate::answers::{file_fault, input_fault};
-use crate::command::{RunWords, Telling};
-use crate::opening::{OpenFault, Opened, RunFiles, open_files};
-use crate::telling::tell;
+use crate::opening::Setup;
+use crate::status::{Made, Status};
 use std::alloc::Global;
-use strand_base::{Files, OutOfMemory};
+use strand_base::OutOfMemory;
 use strand_modules::ModuleBank;
-use strand_run::run_image;
+use strand_report::{ModuleFault, ModulePhase, write_module_fault};
+use strand_run::{Run, RunEnd, report, run_image};
 
-// Runs the image on the bank, and tells of the run.
-fn run_on_bank(
-    alloc: Global,
-    telling: Telling<'_>,
-    files: &RunFiles,
-    bank: &mut ModuleBank,
-) -> Result<Made, OutOfMemory>
-    requires { AreReady (told_by telling) bank.old.size files.now }
-    ensures made { IfOk result (λ made. MakesOnBank (told_by telling.entry) (setup_in files.now) bank.old bank.new made.status made.text.items) }
-    ensures memory { OnErr result (Keeps bank.old bank.new × MayLeave files.now.config files.now.image (take files.now.stop files.now.schedule) bank.old bank.new) }
-{
-    let steps = &files.schedule.steps()[..files.stop as usize];
-    let end = run_image(alloc, &files.config, &files.image, steps, bank)?;
-    tell(alloc, telling, files, end)
+/// What came of a run on the bank.
+#[derive(Drop)]
+pub enum Ran {
+    /// No module refused.
+    Whole { run: Run },
+    /// A module refused, and this is the answer.
+    Refused { made: Made },
 }
 
-/// Opens the files of a run, makes its steps on the bank, and tells of it.
-pub fn run<F: Files>(
-    alloc: Global,
-    telling: Telling<'_>,
-    words: RunWords<'_>,
-    files: &mut F,
-    bank: &mut ModuleBank,
-) -> Result<Made, OutOfMemory>
-    ensures made { IfOk result (λ made. RunMakes (told_by telling.entry) (names_in telling.entry words.entry) words.entry.stop (world (F.seen files.old) bank.old) (world (F.seen files.new) bank.new) made.status made.text.items) }
-    ensures memory { OnErr result (RunMayLeave (names_in telling.entry words.entry) words.entry.stop (world (F.seen files.old) bank.old) (world (F.seen files.new) bank.new)) }
+// The answer where a module refused the fill or the read.
+fn refused(alloc: Global, module: u32, phase: ModulePhase) -> Result<Ran, OutOfMemory>
+    ensures { IfOk result (Answers
+        (module_fault_line (record { «module» = «module»; phase = phase }))) }
 {
-    match open_files(alloc, telling, words, bank.words(), files) {
-        Ok(Opened::Bad { file }) => input_fault(alloc, file),
-        Ok(Opened::Good { files }) => run_on_bank(alloc, telling, &files, bank),
-        Err(OpenFault::Fetch { file }) => file_fault(alloc, file),
-        Err(OpenFault::OutOfMemory) => Err(OutOfMemory),
+    let mut text = Vec::new(alloc);
+    write_module_fault(ModuleFault { module, phase }, &mut text)?;
+    Ok(Ran::Refused {
+        made: Made {
+            status: Status::ModuleFault,
+            text,
+        },
+    })
+}
+
+// Fills the bank, makes the steps and reads the bank.
+fn run_setup(alloc: Global, setup: &Setup, bank: &mut ModuleBank) -> Result<RunEnd, OutOfMemory>
+    requires { IsReady bank.old.size setup.now }
+    ensures ran { IfOk result (RunsTo (inputs_of setup.now) bank.old bank.new) }
+    ensures memory { OnErr result (Keeps bank.old bank.new
+        × MayLeave (inputs_of setup.now) bank.old bank.new) }
+{
+    let files = &setup.files;
+    let steps = &files.schedule.steps()[..setup.stop as usize];
+    run_image(alloc, &files.config, &files.image, steps, bank)
+}
+
+/// Runs this on the bank. Where a module refuses, the answer is made: of the store of a step the report of the steps
+/// before it, of the fill or the read its line.
+pub fn run_on_bank(alloc: Global, setup: &Setup, bank: &mut ModuleBank) -> Result<Ran, OutOfMemory>
+    requires { IsReady bank.old.size setup.now }
+    ensures ran { IfOk result (RunsOnBank (inputs_of setup.now) bank.old bank.new) }
+    ensures memory { OnErr result (Keeps bank.old bank.new
+        × MayLeave (inputs_of setup.now) bank.old bank.new) }
+{
+    match run_setup(alloc, setup, bank)? {
+        RunEnd::FillRefused { module } => refused(alloc, module, ModulePhase::Fill),
+        RunEnd::ReadRefused { module } => refused(alloc, module, ModulePhase::Read),
+        RunEnd::Told { run } => {
+            if run.fault.is_none() {
+                return Ok(Ran::Whole { run });
+            }
+            Ok(Ran::Refused {
+                made: Made {
+                    status: Status::ModuleFault,
+                    text: report(alloc, &run, setup.mode())?,
+                },
+            })
+        }
     }
 }

@@ -1,8 +1,7 @@
 ghost use Rattle.std.specs.Prelude.{◌≡◌};
 ghost use Rattle.strand_app.specs.StatusCode.{code_of};
 
-/// How a call ended (docs/program.md). `Limit` and `StopPast` are answered by no command yet: their causes are
-/// `Input`.
+/// How a call ended (docs/program.md).
 #[derive(Clone, Copy, Debug, PartialEq, Eq)]
 pub enum Status {
     /// The command's text was put.

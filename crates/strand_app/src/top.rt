@@ -1,18 +1,24 @@
-ghost use Rattle.std.specs.Prelude.{◌≡◌, map, string_bytes, IfOk, OnErr};
+ghost use Rattle.std.specs.Prelude.{◌≡◌, IfOk, OnErr};
 ghost use Rattle.std.specs.Prelude.{None, Some};
-ghost use Rattle.strand_report.specs.FaultLines.{words_fault};
-ghost use Rattle.strand_app.specs.Causes.{FileCause, InputCause, ModuleCause, SinkCause, MemoryCause};
-ghost use Rattle.strand_app.specs.Command.{command_of};
-ghost use Rattle.strand_app.specs.Headline.{CommandTells, CommandHolds, CommandRefutes, IsTold};
+ghost use Rattle.strand_app.specs.Causes.{FileCause, ModuleCause, RefusalCause, SinkCause};
+ghost use Rattle.strand_app.specs.Causes.{AnswersRefusal, IsRefused, MemoryCause};
+ghost use Rattle.strand_app.specs.CommandView.{asked, asked_rule, view};
+ghost use Rattle.strand_app.specs.Completeness.{AreInOrder, IsQuiet, IsWhole};
 ghost use Rattle.strand_app.specs.Ends.{Ends};
-ghost use Rattle.strand_app.specs.CommandView.{view};
-ghost use Rattle.strand_app.specs.Runs.{Runs, CommandMakes, CommandMayLeave};
-ghost use Rattle.strand_app.specs.World.{world};
+ghost use Rattle.strand_app.specs.RuleOf.{rule_of};
+ghost use Rattle.strand_app.specs.Runs.{Comes, Runs};
+ghost use Rattle.strand_app.specs.Tells.{Holds, IsTold, Refutes, Tells};
+ghost use Rattle.strand_app.specs.World.{outside, world};
+ghost use Rattle.strand_report.specs.FaultLines.{words_fault};
+ghost use Rattle.strand_report.specs.declared.refusal.Refusal.{Refusal};
 
 use crate::command::{Command, read_command};
-use crate::converting::{convert_image, convert_text};
-use crate::running::run;
-use crate::{Made, Status};
+use crate::commands::asm::asm_text;
+use crate::commands::judge::judge_crash;
+use crate::commands::list::list_image;
+use crate::commands::run::report_run;
+use crate::commands::trace::trace_run;
+use crate::status::{Made, Status};
 use std::alloc::Global;
 use strand_base::{Files, OutOfMemory, Sink, put_all};
 use strand_modules::ModuleBank;
@@ -29,7 +35,8 @@ fn put_text<K: Sink>(out: &mut K, status: Status, text: &[u8]) -> Status
 
 // Puts what was made.
 fn finish<K: Sink>(out: &mut K, made: Result<Made, OutOfMemory>) -> Status
-    ensures made { IfOk made (λ made. Ends made.status made.text.items (K.seen out.old) (K.seen out.new) result) }
+    ensures made { IfOk made (λ made.
+        Ends made.status made.text.items (K.seen out.old) (K.seen out.new) result) }
     ensures memory { OnErr made ((result ≡ Status.Memory) × (K.seen out.new ≡ K.seen out.old)) }
 {
     match made {
@@ -48,27 +55,70 @@ pub fn strand_main<F: Files, K: Sink>(
     bank: &mut ModuleBank,
 ) -> Status
     // The whole call: what is put, how it ends, and what the bank holds.
-    ensures runs { Runs (command_of (map string_bytes words.now)) (world (F.seen files.old) bank.old) (world (F.seen files.new) bank.new) (K.seen out.old) (K.seen out.new) result }
+    ensures runs { Runs (asked_rule words.now bank.old)
+        (outside (F.seen files.old) bank.old (K.seen out.old))
+        (outside (F.seen files.new) bank.new (K.seen out.new)) result }
 
-    // Where a run was told whole, the text is that of the visible run, its graph and its judge, and the bank holds the words that it tells.
-    ensures visible { IsTold result → CommandTells (command_of (map string_bytes words.now)) (world (F.seen files.old) bank.old) (world (F.seen files.new) bank.new) (K.seen out.old) (K.seen out.new) result }
+    // At Ok, No and ModuleFault the text is what the rule puts: of the visible run, its graph, its judge.
+    ensures visible { IsTold result → Tells (asked_rule words.now bank.old)
+        (outside (F.seen files.old) bank.old (K.seen out.old))
+        (outside (F.seen files.new) bank.new (K.seen out.new)) result }
 
-    // However the call ends, what its steps left in the bank is an image that persist order allows.
-    ensures crash { CommandHolds (command_of (map string_bytes words.now)) (world (F.seen files.old) bank.old) (world (F.seen files.new) bank.new) result }
+    // However the call ends, what its steps left in the bank is an image that persist order allows;
+    // a refused fill leaves a part of the first words, and a call that ran nothing what was there.
+    ensures crash { Holds (asked_rule words.now bank.old)
+        (outside (F.seen files.old) bank.old (K.seen out.old))
+        (outside (F.seen files.new) bank.new (K.seen out.new)) result }
+
+    // Where nothing is refused and no count rises, memory ran out, or the whole text was put.
+    ensures completeness { (asked words.now ≡ None → ⊥)
+        → IsQuiet (outside (F.seen files.old) bank.old (K.seen out.old))
+        (outside (F.seen files.new) bank.new (K.seen out.new))
+        → AreInOrder (asked_rule words.now bank.old)
+        (outside (F.seen files.old) bank.old (K.seen out.old))
+        → IsWhole (asked_rule words.now bank.old)
+        (outside (F.seen files.old) bank.old (K.seen out.old))
+        (outside (F.seen files.new) bank.new (K.seen out.new)) result }
 
     // Only words that are no command are answered so, and they always are.
-    ensures words { result ≡ Status.Words → command_of (map string_bytes words.now) ≡ None }
-    ensures no_command { command_of (map string_bytes words.now) ≡ None → Ends Status.Words words_fault (K.seen out.old) (K.seen out.new) result }
+    ensures words { result ≡ Status.Words → asked words.now ≡ None }
+    ensures no_command { asked words.now ≡ None
+        → Ends Status.Words words_fault (K.seen out.old) (K.seen out.new) result }
 
     // A judge's no comes only where no set that the order allows has the crash image.
-    ensures no { result ≡ Status.No → CommandRefutes (command_of (map string_bytes words.now)) (world (F.seen files.old) bank.old) (K.seen out.old) (K.seen out.new) }
+    ensures no { result ≡ Status.No → Refutes (asked_rule words.now bank.old)
+        (outside (F.seen files.old) bank.old (K.seen out.old))
+        (outside (F.seen files.new) bank.new (K.seen out.new)) }
 
-    // Each fault has its cause.
-    ensures input { result ≡ Status.Input → InputCause (command_of (map string_bytes words.now)) (world (F.seen files.old) bank.old) (K.seen out.old) (K.seen out.new) }
-    ensures file_fault { result ≡ Status.FileFault → FileCause (command_of (map string_bytes words.now)) (world (F.seen files.old) bank.old) (world (F.seen files.new) bank.new) (K.seen out.old) (K.seen out.new) }
-    ensures module_fault { result ≡ Status.ModuleFault → ModuleCause (command_of (map string_bytes words.now)) (world (F.seen files.old) bank.old) (world (F.seen files.new) bank.new) (K.seen out.old) (K.seen out.new) }
-    ensures sink_fault { result ≡ Status.SinkFault → SinkCause (command_of (map string_bytes words.now)) (world (F.seen files.old) bank.old) (world (F.seen files.new) bank.new) (K.seen out.old) (K.seen out.new) result }
-    ensures memory { result ≡ Status.Memory → MemoryCause (command_of (map string_bytes words.now)) (K.seen out.old) (K.seen out.new) }
+    // What was given is refused where it must be, and only there: with its cause and its place.
+    ensures refused { (refused : Refusal) → IsRefused (asked_rule words.now bank.old)
+        (outside (F.seen files.old) bank.old (K.seen out.old)) refused
+        → AnswersRefusal
+        (outside (F.seen files.old) bank.old (K.seen out.old))
+        (outside (F.seen files.new) bank.new (K.seen out.new)) refused result }
+    ensures input { result ≡ Status.Input → RefusalCause (asked_rule words.now bank.old)
+        (outside (F.seen files.old) bank.old (K.seen out.old))
+        (outside (F.seen files.new) bank.new (K.seen out.new)) result }
+    ensures limit { result ≡ Status.Limit → RefusalCause (asked_rule words.now bank.old)
+        (outside (F.seen files.old) bank.old (K.seen out.old))
+        (outside (F.seen files.new) bank.new (K.seen out.new)) result }
+    ensures stop_past { result ≡ Status.StopPast → RefusalCause (asked_rule words.now bank.old)
+        (outside (F.seen files.old) bank.old (K.seen out.old))
+        (outside (F.seen files.new) bank.new (K.seen out.new)) result }
+
+    // Each fault outside has its cause.
+    ensures file_fault { result ≡ Status.FileFault → FileCause (asked_rule words.now bank.old)
+        (outside (F.seen files.old) bank.old (K.seen out.old))
+        (outside (F.seen files.new) bank.new (K.seen out.new)) }
+    ensures module_fault { result ≡ Status.ModuleFault → ModuleCause (asked_rule words.now bank.old)
+        (outside (F.seen files.old) bank.old (K.seen out.old))
+        (outside (F.seen files.new) bank.new (K.seen out.new)) }
+    ensures sink_fault { result ≡ Status.SinkFault → SinkCause (asked_rule words.now bank.old)
+        (outside (F.seen files.old) bank.old (K.seen out.old))
+        (outside (F.seen files.new) bank.new (K.seen out.new)) result }
+    ensures memory { result ≡ Status.Memory → MemoryCause (asked words.now)
+        (outside (F.seen files.old) bank.old (K.seen out.old))
+        (outside (F.seen files.new) bank.new (K.seen out.new)) }
 {
     run_command(alloc, words, files, out, bank)
 }
@@ -80,13 +130,15 @@ fn make<F: Files>(
     files: &mut F,
     bank: &mut ModuleBank,
 ) -> Result<Made, OutOfMemory>
-    ensures made { IfOk result (λ made. CommandMakes (Some (view command.entry)) (world (F.seen files.old) bank.old) (world (F.seen files.new) bank.new) made.status made.text.items) }
-    ensures memory { OnErr result (CommandMayLeave (view command.entry) (world (F.seen files.old) bank.old) (world (F.seen files.new) bank.new)) }
+    ensures { Comes (rule_of (Some (view command.entry)) bank.old)
+        (world (F.seen files.old) bank.old) (world (F.seen files.new) bank.new) result }
 {
     match command {
-        Command::Asm { text } => convert_text(alloc, text, files),
-        Command::List { image } => convert_image(alloc, image, files),
-        Command::Run { telling, words } => run(alloc, telling, words, files, bank),
+        Command::Asm { text } => asm_text(alloc, text, files),
+        Command::List { image } => list_image(alloc, image, files),
+        Command::Run { words } => report_run(alloc, words, files, bank),
+        Command::Judge { words, crash } => judge_crash(alloc, words, crash, files, bank),
+        Command::Trace { words } => trace_run(alloc, words, files, bank),
     }
 }
 
@@ -98,7 +150,9 @@ fn run_command<F: Files, K: Sink>(
     out: &mut K,
     bank: &mut ModuleBank,
 ) -> Status
-    ensures { Runs (command_of (map string_bytes words.now)) (world (F.seen files.old) bank.old) (world (F.seen files.new) bank.new) (K.seen out.old) (K.seen out.new) result }
+    ensures { Runs (asked_rule words.now bank.old)
+        (outside (F.seen files.old) bank.old (K.seen out.old))
+        (outside (F.seen files.new) bank.new (K.seen out.new)) result }
 {
     match read_command(words) {
         None => put_text(out, Status::Words, b"fault words\n"),

@@ -1,5 +1,7 @@
 pub mod Counted
-pub mod LineParts
+pub mod FieldLines
+pub mod LastLine
 pub mod Marked
+pub mod MemberLines
 pub mod Numbered
 pub mod Parts

@@ -1,17 +1,22 @@
--- A text in parts that are appended one after the other: the first part, each further one, the last
--- one, and one that stopped. What follows a part is found by itself.
-use Rattle.std.proofs.Common.{◌≡◌, ℕ, List, ◌++◌, Result, refl}
+-- A text in parts that are appended one after the other: before the first, after a further one, at one that stopped, and
+-- after the last one.
+use Rattle.std.proofs.Common.{◌≡◌, ℕ, List, [], ◌++◌, Result, refl, sym}
+use Rattle.std.proofs.lemmas.List.{append-nil}
 use Rattle.strand_base.specs.Puts.{AppendsFront, Puts}
 use Rattle.strand_base.proofs.Fronts.{SoFar, so_far_more, so_far_stops, puts_after}
 
-pub first : (a rest old new : List ℕ) → new ≡ old ++ a → SoFar (a ++ rest) rest old new
-first a rest old new e = record { done = a; appended = e; parts = refl }
+pub in_parts : {text parts old : List ℕ} → text ≡ parts → SoFar text parts old old
+in_parts {old = old} e = record { done = []; appended = sym (append-nil old); parts = e }
 
-pub further : (text a rest old mid new : List ℕ) → new ≡ mid ++ a → SoFar text (a ++ rest) old mid → SoFar text rest old new
-further text a rest old mid new more h = so_far_more text (a ++ rest) a rest old mid new h refl more
+pub further : {text old mid new : List ℕ} (a rest : List ℕ) → new ≡ mid ++ a → SoFar text (a ++ rest) old mid → SoFar text rest old new
+further a rest more h = so_far_more _ (a ++ rest) a rest _ _ _ h refl more
 
-pub stopped : (text a rest old mid new : List ℕ) → AppendsFront a mid new → SoFar text (a ++ rest) old mid → AppendsFront text old new
-stopped text a rest old mid new front h = so_far_stops text (a ++ rest) a rest old mid new h refl front
+pub stopped : {text old mid new : List ℕ} (a rest : List ℕ) → AppendsFront a mid new → SoFar text (a ++ rest) old mid → AppendsFront text old new
+stopped a rest front h = so_far_stops _ (a ++ rest) a rest _ _ _ h refl front
 
-pub last : {T E : Type 0} (r : Result T E) (text a old mid new : List ℕ) → Puts r a mid new → SoFar text a old mid → Puts r text old new
-last r text a old mid new put h = rw h.parts (puts_after r h.done a old mid new h.appended put)
+pub last : {T E : Type 0} (r : Result T E) {text old mid : List ℕ} (a new : List ℕ) → Puts r a mid new → SoFar text a old mid → Puts r text old new
+last r a new put h = rw h.parts (puts_after r h.done a _ _ new h.appended put)
+
+-- the last one of a list
+pub last_of_all : {T E : Type 0} (r : Result T E) {text old mid : List ℕ} (a new : List ℕ) → Puts r a mid new → SoFar text (a ++ []) old mid → Puts r text old new
+last_of_all r a new put h = last r a new put (rw (append-nil a) at h)

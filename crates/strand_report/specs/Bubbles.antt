@@ -1,14 +1,12 @@
 -- The steps that did nothing, as lines.
-use Rattle.std.specs.Prelude.{ℕ, suc, List, [], ◌∷◌}
+use Rattle.std.specs.Prelude.{ℕ, List, [], ◌∷◌}
 use Rattle.std.specs.List.{flat_map}
 use Rattle.std.specs.Fmt.{decimal}
 use lib.Chars.{codes}
 use Rattle.strand_base.specs.Text.{line_text}
+use Rattle.strand_rules.specs.declared.turn.BubbleAt.{BubbleAt}
 use Rattle.strand_rules.specs.declared.turn.Cause.{Cause}
 use Rattle.strand_rules.specs.declared.turn.Cause.TheVariants.{Ended, Join, Conflict, Queue, NoItem, NoRoom, NotEmpty, NoEntry, FlightFull, OlderWaits}
-use Rattle.strand_rules.specs.declared.turn.Turn.{Turn}
-use Rattle.strand_rules.specs.declared.turn.Turn.TheVariants.{Done, Bubble, Fault}
-use Rattle.strand_report.specs.declared.bubbles.BubbleAt.{BubbleAt}
 
 abbrev pub cause_word : Cause → List ℕ
 cause_word Ended = codes "ended"
@@ -24,18 +22,8 @@ cause_word OlderWaits = codes "olderwaits"
 
 -- "bubble K CAUSE": step K did nothing
 abbrev pub bubble_line : BubbleAt → List ℕ
-bubble_line bubble = line_text (codes "bubble" ∷ decimal bubble.cycle ∷ cause_word bubble.cause ∷ [])
+bubble_line bubble =
+    line_text (codes "bubble" ∷ decimal bubble.cycle ∷ cause_word bubble.cause ∷ [])
 
 abbrev pub bubble_lines : List BubbleAt → List ℕ
 bubble_lines bubbles = flat_map bubble_line bubbles
-
--- the bubbles among some turns, of which the first is that of step k
-unfoldable pub bubbles_from : ℕ → List Turn → List BubbleAt
-bubbles_from k [] = []
-bubbles_from k (Done ∷ turns) = bubbles_from (suc k) turns
-bubbles_from k (Fault m ∷ turns) = bubbles_from (suc k) turns
-bubbles_from k (Bubble cause ∷ turns) = record { cycle = k; cause = cause } ∷ bubbles_from (suc k) turns
-
--- the bubbles of a run, by its turns: steps are counted from 1
-abbrev pub bubbles_of : List Turn → List BubbleAt
-bubbles_of turns = bubbles_from 1 turns

@@ -1,9 +1,13 @@
 pub mod Bubbles
+pub mod Cores
 pub mod FaultLines
+pub mod Fields
 pub mod Numbered
 pub mod Outs
 pub mod Persists
+pub mod Refusals
 pub mod Report
+pub mod RunSeen
 pub mod Trace
 pub mod Verdict
 pub mod Words

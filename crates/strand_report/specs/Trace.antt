@@ -28,13 +28,13 @@ event_words p (NewStrand core) = codes "newstrand" ∷ decimal core ∷ []
 event_words p (Join core) = codes "join" ∷ decimal core ∷ []
 event_words p (Out core value) = codes "out" ∷ decimal core ∷ hex16 value ∷ []
 
--- "event K .."
-abbrev pub event_line : ℕ → List (List ℕ) → List ℕ
-event_line k words = line_text (codes "event" ∷ decimal k ∷ words)
+-- "event K ..": event k, where p persists are before it
+abbrev pub event_line : ℕ → ℕ → Event → List ℕ
+event_line k p e = line_text (codes "event" ∷ decimal k ∷ event_words p e)
 
 -- the line of event k of a trace
 abbrev pub event_text : List Event → ℕ → Event → List ℕ
-event_text t k e = event_line k (event_words (count_below k (event_is is_persist t)) e)
+event_text t k e = event_line k (count_below k (event_is is_persist t)) e
 
 abbrev pub event_lines : List Event → List ℕ
 event_lines t = numbered (event_text t) t
@@ -46,6 +46,10 @@ edge_line e = line_text (codes "edge" ∷ decimal e.before ∷ decimal e.after �
 abbrev pub edge_lines : List Edge → List ℕ
 edge_lines edges = flat_map edge_line edges
 
--- the events of a trace, then the edges of its graph in their order
+-- events, then edges between them, in their order
+abbrev pub events_and_edges : List Event → List Edge → List ℕ
+events_and_edges events edges = event_lines events ++ edge_lines edges
+
+-- the events of a trace, then the edges of its graph
 abbrev pub trace_text : Mode → List Event → List ℕ
-trace_text mode t = event_lines t ++ edge_lines (edges_of mode t)
+trace_text mode t = events_and_edges t (edges_of mode t)

@@ -2,20 +2,11 @@ ghost use Rattle.std.specs.Prelude.{◌≡◌};
 ghost use Rattle.strand_base.specs.Puts.{Puts};
 ghost use Rattle.strand_report.specs.Bubbles.{bubble_line, bubble_lines, cause_word};
 
-use itoa::Buffer;
-use strand_base::{OutOfMemory, put_line};
-use strand_rules::Cause;
+use crate::fields::Field::{Decimal, Word};
+use crate::fields::put_fields;
+use strand_base::OutOfMemory;
+use strand_rules::{BubbleAt, Cause};
 
-/// A step that did nothing.
-#[derive(Clone, Copy, Debug, PartialEq, Eq)]
-pub struct BubbleAt {
-    /// The step, counted from 1.
-    pub cycle: u64,
-    /// Why it did nothing.
-    pub cause: Cause,
-}
-
-/// The word of a cause.
 fn word_of(cause: Cause) -> &'static str
     ensures { result.now ≡ cause_word cause }
 {
@@ -33,18 +24,13 @@ fn word_of(cause: Cause) -> &'static str
     }
 }
 
-/// The line of a bubble.
 fn put_bubble(into: &mut Vec<u8>, bubble: BubbleAt) -> Result<(), OutOfMemory>
     ensures { Puts result (bubble_line bubble) into.old.items into.new.items }
 {
-    let mut number = Buffer::new();
-    put_line(
+    put_fields(
         into,
-        b"bubble",
-        &[
-            number.format(bubble.cycle).as_bytes(),
-            word_of(bubble.cause).as_bytes(),
-        ],
+        &[Word("bubble"), Decimal(bubble.cycle)],
+        &[Word(word_of(bubble.cause))],
     )
 }
 

@@ -3,7 +3,9 @@ ghost use Rattle.std.specs.List.{flat_map};
 ghost use Rattle.strand_base.specs.Puts.{Puts};
 ghost use Rattle.strand_report.specs.Persists.{durable_line, marked};
 
-use crate::members::{put_count, put_member};
+use crate::fields::Field::Decimal;
+use crate::fields::put_spaced;
+use crate::members::put_count;
 use strand_base::{OutOfMemory, put};
 
 /// How many numbers are marked.
@@ -21,11 +23,12 @@ fn count_marked(marks: &[bool]) -> usize
 
 /// The numbers that are marked, ascending, each with a space before it.
 fn put_marked(into: &mut Vec<u8>, marks: &[bool]) -> Result<(), OutOfMemory>
-    ensures { Puts result (flat_map (λ n. 32 ∷ decimal n) (marked marks.now)) into.old.items into.new.items }
+    ensures { Puts result (flat_map (λ n. 32 ∷ decimal n) (marked marks.now))
+        into.old.items into.new.items }
 {
     for (number, mark) in marks.iter().enumerate() {
         if *mark {
-            put_member(into, number)?;
+            put_spaced(into, Decimal(number as u64))?;
         }
     }
     Ok(())

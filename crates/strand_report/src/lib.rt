@@ -1,23 +1,26 @@
-//! The texts that the simulator puts: the report of a run, verdicts, traces, and the lines of faults
-//! (docs/FORMATS.md).
+//! The texts that the simulator puts: the report of a run, verdicts, traces, and the lines of
+//! faults (docs/FORMATS.md).
 #![tactic(auto)]
 
 mod bubbles;
 mod cores;
 mod durable;
-mod fault_lines;
+mod fields;
+mod file_fault;
 mod members;
+mod module_fault;
 mod outs;
+mod refusal;
+mod refusal_lines;
 mod run;
 mod trace;
 mod verdict;
-mod visible;
 mod words;
 
-pub use bubbles::BubbleAt;
-pub use fault_lines::{
-    StepFault, write_file_fault, write_fill_fault, write_input_fault, write_read_fault,
-};
+pub use file_fault::write_file_fault;
+pub use module_fault::{ModuleFault, ModulePhase, write_module_fault};
+pub use refusal::{ContentFault, Refusal};
+pub use refusal_lines::write_refusal;
 pub use run::{RunView, write_run};
 pub use trace::write_trace;
 pub use verdict::write_verdict;

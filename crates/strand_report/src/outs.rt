@@ -1,8 +1,9 @@
 ghost use Rattle.strand_base.specs.Puts.{Puts};
 ghost use Rattle.strand_report.specs.Outs.{out_line, out_lines};
 
-use itoa::Buffer;
-use strand_base::{OutOfMemory, hex_digits, put_line};
+use crate::fields::Field::{Decimal, Hex, Word};
+use crate::fields::put_fields;
+use strand_base::OutOfMemory;
 use strand_events::Event;
 
 /// The line of an event, where it puts something out.
@@ -12,12 +13,7 @@ fn put_out(into: &mut Vec<u8>, event: Event) -> Result<(), OutOfMemory>
     let Event::Out { core, value } = event else {
         return Ok(());
     };
-    let mut number = Buffer::new();
-    put_line(
-        into,
-        b"out",
-        &[number.format(core).as_bytes(), hex_digits(value).as_slice()],
-    )
+    put_fields(into, &[Word("out"), Decimal(core as u64)], &[Hex(value)])
 }
 
 /// Appends the lines of what the cores put out, in the order of the trace.

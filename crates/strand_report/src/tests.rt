@@ -1,15 +1,20 @@
 use crate::{
-    BubbleAt, RunView, StepFault, write_file_fault, write_fill_fault, write_input_fault,
-    write_read_fault, write_run, write_trace, write_verdict,
+    ContentFault, ModuleFault, ModulePhase, Refusal, RunView, write_file_fault, write_module_fault,
+    write_refusal, write_run, write_trace, write_verdict,
 };
+use std::alloc::Global;
 use std::test::*;
-use strand_base::Numbers;
+use strand_asm::AsmFault;
+use strand_asm_lines::{LineFault, LineKind};
+use strand_base::{Numbers, OutOfMemory};
 use strand_events::{Event, Trace};
 use strand_exec::{CoreState, FlatMemory, Life, Trap};
-use strand_inputs::Mode;
+use strand_image::{ImageFault, Quantity};
+use strand_inputs::{InputFault, Key, Mode, StopPast};
 use strand_judge::Verdict;
 use strand_order::build;
-use strand_rules::Cause;
+use strand_path::Path;
+use strand_rules::{BubbleAt, Cause};
 
 fn at(pc: u64, life: Life) -> CoreState {
     CoreState {
@@ -17,6 +22,18 @@ fn at(pc: u64, life: Life) -> CoreState {
         regs: [0; 32],
         life,
     }
+}
+
+fn path_of(alloc: Global, chain: &[u32]) -> Result<Path, OutOfMemory> {
+    let mut numbers = Numbers::new(alloc);
+    for number in chain {
+        numbers.push(*number)?;
+    }
+    Ok(Path {
+        chain: numbers,
+        route: Numbers::new(alloc),
+        levels: Numbers::new(alloc),
+    })
 }
 
 #[test]
@@ -36,8 +53,11 @@ fn a_report_is_as_printed(rt: HostRuntime) -> Result<(), Fail> {
         visible: &visible,
         held: &[0, 0],
         durable: &[],
-        chain: &[],
-        fault: Some(StepFault { module: 0, step: 5 }),
+        path: &path_of(rt.alloc(), &[])?,
+        fault: Some(ModuleFault {
+            module: 0,
+            phase: ModulePhase::Step { cycle: 5 },
+        }),
     };
     let mut text = Vec::new(rt.alloc());
     write_run(&view, &mut text)?;
@@ -116,7 +136,7 @@ fn every_line_of_a_report_is_as_printed(rt: HostRuntime) -> Result<(), Fail> {
         visible: &visible,
         held: &[1, 0, 0xab],
         durable: &durable,
-        chain: &[0, 4, 11],
+        path: &path_of(rt.alloc(), &[0, 4, 11])?,
         fault: None,
     };
     let mut text = Vec::new(rt.alloc());
@@ -153,12 +173,8 @@ fn every_line_of_a_report_is_as_printed(rt: HostRuntime) -> Result<(), Fail> {
 }
 
 #[test]
-fn faults_and_verdicts_are_as_printed(rt: HostRuntime) -> Result<(), Fail> {
+fn verdicts_are_as_printed(rt: HostRuntime) -> Result<(), Fail> {
     let mut text = Vec::new(rt.alloc());
-    write_file_fault(2, &mut text)?;
-    write_input_fault(3, &mut text)?;
-    write_fill_fault(0, &mut text)?;
-    write_read_fault(1, &mut text)?;
     let mut least = Numbers::new(rt.alloc());
     write_verdict(&Verdict::Yes(Numbers::new(rt.alloc())), &mut text)?;
     least.push(2)?;
@@ -170,10 +186,199 @@ fn faults_and_verdicts_are_as_printed(rt: HostRuntime) -> Result<(), Fail> {
     write_verdict(&no, &mut text)?;
     assert_eq!(rt;
         text.as_slice(),
-        b"fault file 2\nfault input 3\nfault module 0 fill\nfault module 1 read\n\
-        yes 0:\nyes 1: 2\nno 0000000040000000 1\n"
-            .as_slice()
+        b"yes 0:\nyes 1: 2\nno 0000000040000000 1\n".as_slice()
     );
+    Ok(())
+}
+
+#[test]
+fn faults_of_files_and_modules_are_as_printed(rt: HostRuntime) -> Result<(), Fail> {
+    let mut text = Vec::new(rt.alloc());
+    write_file_fault(2, &mut text)?;
+    for phase in [
+        ModulePhase::Fill,
+        ModulePhase::Step { cycle: 14 },
+        ModulePhase::Read,
+    ] {
+        write_module_fault(ModuleFault { module: 1, phase }, &mut text)?;
+    }
+    assert_eq!(rt;
+        text.as_slice(),
+        b"fault file 2\nfault module 1 fill\nfault module 1 step 14\nfault module 1 read\n".as_slice()
+    );
+    Ok(())
+}
+
+fn of_text(fault: AsmFault) -> Refusal {
+    Refusal::File {
+        file: 1,
+        fault: ContentFault::Text(fault),
+    }
+}
+
+fn of_line(kind: LineKind) -> Refusal {
+    of_text(AsmFault::Line(LineFault { line: 10, kind }))
+}
+
+fn of_image(fault: ImageFault) -> Refusal {
+    Refusal::File {
+        file: 2,
+        fault: ContentFault::Image(fault),
+    }
+}
+
+fn of_input(file: u32, fault: InputFault) -> Refusal {
+    Refusal::File {
+        file,
+        fault: ContentFault::Input(fault),
+    }
+}
+
+/// A refusal, whether it is a limit, and its line.
+type Row = (Refusal, bool, &'static str);
+
+#[test]
+fn refusals_are_as_printed(rt: HostRuntime) -> Result<(), Fail> {
+    let stop = StopPast { stop: 9, steps: 8 };
+    let too_long = Refusal::File {
+        file: 1,
+        fault: ContentFault::TooLong { limit: 4096 },
+    };
+    let cores = ImageFault::Limit {
+        field: Quantity::Cores,
+        value: 5,
+    };
+    let code = AsmFault::Limit {
+        what: Quantity::Code,
+        number: 0,
+    };
+    let volatile = AsmFault::Limit {
+        what: Quantity::Volatile,
+        number: 131_073,
+    };
+    let persistent = ImageFault::Limit {
+        field: Quantity::Persistent,
+        value: 0,
+    };
+    let least = AsmFault::Range {
+        line: 7,
+        value: i64::MIN as i128,
+    };
+    let rows: [Row; 26] = [
+        (too_long, true, "fault limit 1 bytes 4096\n"),
+        (of_image(cores), true, "fault limit 2 cores 5\n"),
+        (of_text(code), true, "fault limit 1 code 0\n"),
+        (of_text(volatile), true, "fault limit 1 volatile 131073\n"),
+        (of_image(persistent), true, "fault limit 2 persistent 0\n"),
+        (
+            of_input(
+                3,
+                InputFault::Limit {
+                    line: 1,
+                    value: 200_001,
+                },
+            ),
+            true,
+            "fault limit 3 line 1 200001\n",
+        ),
+        (Refusal::Bank { need: 3, have: 2 }, true, "fault bank 3 2\n"),
+        (Refusal::Stop(stop), false, "fault stop 9 8\n"),
+        (of_image(ImageFault::Magic), false, "fault input 2 magic\n"),
+        (
+            of_image(ImageFault::Short { need: 88, have: 87 }),
+            false,
+            "fault input 2 short 88 87\n",
+        ),
+        (
+            of_image(ImageFault::Long { need: 88, have: 89 }),
+            false,
+            "fault input 2 long 88 89\n",
+        ),
+        (
+            of_image(ImageFault::Entry { core: 3, value: 10 }),
+            false,
+            "fault input 2 entry 3 10\n",
+        ),
+        (
+            of_input(3, InputFault::BadLine { line: 1 }),
+            false,
+            "fault input 3 badline 1\n",
+        ),
+        (
+            of_input(1, InputFault::Repeated { line: 8, first: 2 }),
+            false,
+            "fault input 1 repeated 8 2\n",
+        ),
+        (
+            of_input(1, InputFault::Missing { key: Key::Ways }),
+            false,
+            "fault input 1 missing ways\n",
+        ),
+        (
+            of_input(4, InputFault::CrashLength { need: 24, have: 23 }),
+            false,
+            "fault input 4 crashlength 24 23\n",
+        ),
+        (
+            of_line(LineKind::BadToken),
+            false,
+            "fault input 1 line 10 badtoken\n",
+        ),
+        (
+            of_line(LineKind::BadNumber),
+            false,
+            "fault input 1 line 10 badnumber\n",
+        ),
+        (
+            of_line(LineKind::BadRegister),
+            false,
+            "fault input 1 line 10 badregister\n",
+        ),
+        (
+            of_line(LineKind::UnknownName),
+            false,
+            "fault input 1 line 10 unknownname\n",
+        ),
+        (
+            of_line(LineKind::MissingOperand),
+            false,
+            "fault input 1 line 10 missingoperand\n",
+        ),
+        (
+            of_line(LineKind::ExtraOperand),
+            false,
+            "fault input 1 line 10 extraoperand\n",
+        ),
+        (
+            of_text(AsmFault::Duplicate { line: 2, first: 1 }),
+            false,
+            "fault input 1 duplicate 2 1\n",
+        ),
+        (
+            of_text(AsmFault::Undefined { line: 1 }),
+            false,
+            "fault input 1 undefined 1\n",
+        ),
+        (
+            of_text(AsmFault::Range {
+                line: 1,
+                value: 2048,
+            }),
+            false,
+            "fault input 1 range 1 2048\n",
+        ),
+        (
+            of_text(least),
+            false,
+            "fault input 1 range 7 -9223372036854775808\n",
+        ),
+    ];
+    for (refusal, is_limit, line) in rows {
+        let mut text = Vec::new(rt.alloc());
+        write_refusal(refusal, &mut text)?;
+        assert_eq!(rt; text.as_slice(), line.as_bytes());
+        assert_eq!(rt; refusal.is_limit(), is_limit);
+    }
     Ok(())
 }
 
@@ -216,7 +421,7 @@ fn a_trace_is_as_printed(rt: HostRuntime) -> Result<(), Fail> {
         .ok()
         .ok_or("memory")?;
     let mut text = Vec::new(rt.alloc());
-    write_trace(&graph, &mut text)?;
+    write_trace(&graph, &trace, &mut text)?;
     assert_eq!(rt;
         text.as_slice(),
         b"event 0 store 0 0000000040000000 0000000000000001 persist 0\n\

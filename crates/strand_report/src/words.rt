@@ -1,9 +1,12 @@
 ghost use Rattle.std.specs.Prelude.{◌+◌, ◌*◌, ◌^◌, ◌<◌, ◌≤◌};
 ghost use Rattle.strand_base.specs.Puts.{Puts};
 ghost use Rattle.strand_report.specs.Numbered.{numbered};
-ghost use Rattle.strand_report.specs.Words.{word_line};
+ghost use Rattle.strand_report.specs.Words.{visible_lines, word_line};
 
-use strand_base::{OutOfMemory, hex_digits, put_line};
+use crate::fields::Field::{Hex, Word};
+use crate::fields::put_fields;
+use strand_base::OutOfMemory;
+use strand_exec::{FlatMemory, PERSISTENT_BASE, VOLATILE_BASE};
 
 /// The line of a word, where it is not 0.
 fn put_word(
@@ -20,11 +23,7 @@ fn put_word(
         return Ok(());
     }
     let address = base + 8 * place as u64;
-    put_line(
-        into,
-        name.as_bytes(),
-        &[hex_digits(address).as_slice(), hex_digits(word).as_slice()],
-    )
+    put_fields(into, &[Word(name)], &[Hex(address), Hex(word)])
 }
 
 /// Appends the lines of the words that are not 0. The first word has the address `base`, and each
@@ -43,4 +42,12 @@ pub(crate) fn put_words(
         put_word(into, name, base, place, *word)?;
     }
     Ok(())
+}
+
+/// Appends `vis H H`, address and value, for each word of the memory that is not 0, by rising address.
+pub(crate) fn put_visible(into: &mut Vec<u8>, memory: &FlatMemory) -> Result<(), OutOfMemory>
+    ensures { Puts result (visible_lines memory.now) into.old.items into.new.items }
+{
+    put_words(into, "vis", VOLATILE_BASE, &memory.volatile)?;
+    put_words(into, "vis", PERSISTENT_BASE, &memory.persistent)
 }

@@ -3,6 +3,7 @@ pub mod Images
 pub mod Cycle
 pub mod Machine
 pub mod Run
+pub mod Bubbles
 pub mod Looking
 pub mod Kept
 pub mod Parts

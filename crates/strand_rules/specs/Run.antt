@@ -3,16 +3,12 @@ use Rattle.std.specs.Prelude.{◌≡◌, ℕ, ◌+◌, ◌-◌, ◌%◌, ◌≤�
 use Rattle.std.specs.declared.option.Option.{Option}
 use Rattle.strand_inputs.specs.Settings.{Settings}
 use Rattle.strand_inputs.specs.declared.step.Step.{Step}
+use Rattle.strand_rules.specs.declared.turn.StepFault.{StepFault}
 use Rattle.strand_rules.specs.declared.turn.Turn.{Turn}
 use Rattle.strand_rules.specs.declared.turn.Turn.TheVariants.{Done, Bubble, Fault}
 use Rattle.strand_rules.specs.Visible.{Program}
 use Rattle.strand_rules.specs.Cycle.{Request, State, turn, after, run}
 use Rattle.strand_rules.specs.Machine.{stored_by}
-
--- the store of step number `step`, counted from 1, which this module refused
-pub record FailedStore : Type 0 where
-  pub step : ℕ
-  pub «module» : ℕ
 
 -- the turns of some steps, where the bank takes what is stored
 abbrev pub turns : Settings → Program → State → List Step → List Turn
@@ -36,7 +32,7 @@ abbrev pub before_step : Settings → Program → State → List Step → ℕ �
 before_step g p s steps k = run g p s (take (k - 1) steps)
 
 -- Step number `failed.step` is a write that would be done, and this module of so many has the word that it stores.
-pub record CanFail (g : Settings) (p : Program) (s : State) (steps : List Step) (modules : ℕ) (failed : FailedStore) : Type 0 where
+pub record CanFail (g : Settings) (p : Program) (s : State) (steps : List Step) (modules : ℕ) (failed : StepFault) : Type 0 where
   pub number : 1 ≤ failed.step
   pub step : Step
   pub there : slice_get steps (failed.step - 1) ≡ Some step

@@ -20,4 +20,4 @@ pub use laws::{
     durable_sets_are_allowed, images_follow_the_trace, parts_are_kept, visible_runs_are_kept,
 };
 pub use plain_machine::PlainMachine;
-pub use turn::{Cause, Turn};
+pub use turn::{BubbleAt, Cause, StepFault, Turn};

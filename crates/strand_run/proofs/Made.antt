@@ -8,8 +8,8 @@ use Rattle.std.proofs.lemmas.Option.{slice_get-get_or}
 use Rattle.strand_inputs.specs.Settings.{Settings}
 use Rattle.strand_inputs.specs.Schedule.{IsBelow}
 use Rattle.strand_inputs.specs.declared.step.Step.{Step}
-use Rattle.strand_report.specs.Bubbles.{bubbles_from}
-use Rattle.strand_report.specs.declared.bubbles.BubbleAt.{BubbleAt}
+use Rattle.strand_rules.specs.Bubbles.{bubbles_from}
+use Rattle.strand_rules.specs.declared.turn.BubbleAt.{BubbleAt}
 use Rattle.strand_modules.specs.Bank.{BankSeen, Keeps, Refuses, store_refused, stores_accepted}
 use Rattle.strand_rules.specs.Cycle.{Request, State, turn, after, run}
 use Rattle.strand_rules.specs.Machine.{StoresOk, StoresErr, Machine, SameSetup, StandsOn, Steps, stepped, stored_by}

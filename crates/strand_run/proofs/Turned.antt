@@ -3,8 +3,8 @@ use Rattle.std.proofs.Common.{◌≡◌, ℕ, suc, ◌+◌, ◌<◌, List, [], �
 use Rattle.std.proofs.lemmas.List.{take_more, length-take-le}
 use Rattle.strand_inputs.specs.Settings.{Settings}
 use Rattle.strand_inputs.specs.declared.step.Step.{Step}
-use Rattle.strand_report.specs.Bubbles.{bubbles_from}
-use Rattle.strand_report.specs.declared.bubbles.BubbleAt.{BubbleAt}
+use Rattle.strand_rules.specs.Bubbles.{bubbles_from}
+use Rattle.strand_rules.specs.declared.turn.BubbleAt.{BubbleAt}
 use Rattle.strand_rules.specs.Visible.{Program}
 use Rattle.strand_rules.specs.declared.turn.Cause.{Cause}
 use Rattle.strand_rules.specs.declared.turn.Turn.{Turn}

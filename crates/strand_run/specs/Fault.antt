@@ -1,34 +1,32 @@
--- The one fault that a call meets outside, and what the bank shows of it.
-use Rattle.std.specs.Prelude.{◌≡◌, ℕ}
+-- The course of a run on a bank, by what the bank refuses, and what the bank shows of it.
+use Rattle.std.specs.Prelude.{◌≡◌, ℕ, Some, None}
+use Rattle.std.specs.Option.{option_map}
+use Rattle.std.specs.declared.option.Option.{Option}
 use Rattle.strand_modules.specs.Bank.{BankSeen, Keeps, Refuses, fill_refused, store_refused, read_refused}
+use Rattle.strand_modules.specs.declared.refusals.Refusals.{Refusals}
+use Rattle.strand_rules.specs.declared.turn.StepFault.{StepFault}
 
--- Files are counted from 1, modules from 0, steps from 1.
-pub data Fault : Type 0 where
-  absent : Fault
-  -- the fetch of file k
-  fetch : ℕ → Fault
+-- Modules are counted from 0, steps from 1.
+pub data Course : Type 0 where
   -- the fill, at module m
-  fill : ℕ → Fault
-  -- the store of step k, at module m
-  step : ℕ → ℕ → Fault
-  -- the read at the end, at module m
-  read : ℕ → Fault
-  -- the store of step k at module m, and then the read at module n
-  step_and_read : ℕ → ℕ → ℕ → Fault
+  fill : ℕ → Course
+  -- The image was run; the store of a step was refused, if one was, and then the read at the end, if it was.
+  ran : (store : Option StepFault) (read : Option ℕ) → Course
 
--- one refusal after another
-pub record RefusesTwice (before after : BankSeen) (m n : ℕ) : Type 0 where
+-- module m refused, if one did
+abbrev pub RefusedBy : (Refusals → Refusals) → BankSeen → BankSeen → Option ℕ → Type 0
+RefusedBy count before after None = after.refused ≡ before.refused
+RefusedBy count before after (Some m) = Refuses count before after m
+
+-- the stores, and then the reads
+pub record RefusedRun (before after : BankSeen) (store : Option StepFault) (read : Option ℕ) : Type 0 where
   pub between : BankSeen
   pub kept_first : Keeps before between
   pub kept_second : Keeps between after
-  pub first : Refuses store_refused before between m
-  pub second : Refuses read_refused between after n
+  pub first : RefusedBy store_refused before between (option_map (λ (f : StepFault). f.«module») store)
+  pub second : RefusedBy read_refused between after read
 
 -- what the bank shows of a fault
-abbrev pub ShownByBank : BankSeen → BankSeen → Fault → Type 0
-ShownByBank before after absent = after.refused ≡ before.refused
-ShownByBank before after (fetch k) = after ≡ before
+abbrev pub ShownByBank : BankSeen → BankSeen → Course → Type 0
 ShownByBank before after (fill m) = Refuses fill_refused before after m
-ShownByBank before after (step k m) = Refuses store_refused before after m
-ShownByBank before after (read m) = Refuses read_refused before after m
-ShownByBank before after (step_and_read k m n) = RefusesTwice before after m n
+ShownByBank before after (ran store read) = RefusedRun before after store read

@@ -1,122 +1,96 @@
--- What a run of an image on a bank comes to, by the one fault that it meets.
-use Rattle.std.specs.Prelude.{◌≡◌, ◌⊎◌, ℕ, ◌+◌, ◌-◌, ◌%◌, ◌<◌, ◌≤◌, List, length, take, Some, None, OnSome}
+-- What a run on a bank comes to, by its course.
+use Rattle.std.specs.Prelude.{◌≡◌, ◌⊎◌, ℕ, ◌+◌, ◌%◌, ◌<◌, ◌≤◌, List, length, take, Some, None, IfSome}
 use Rattle.std.specs.declared.option.Option.{Option}
-use Rattle.strand_image.specs.Parts.{Parts}
-use Rattle.strand_inputs.specs.Settings.{Settings}
 use Rattle.strand_inputs.specs.declared.step.Step.{Step}
-use Rattle.strand_inputs.specs.declared.mode.Mode.{Mode}
-use Rattle.strand_path.specs.Chosen.{IsChosenChain}
-use Rattle.strand_report.specs.Report.{run_text}
-use Rattle.strand_report.specs.declared.fault_lines.StepFault.{StepFault}
+use Rattle.strand_report.specs.Report.{View}
+use Rattle.strand_rules.specs.declared.turn.StepFault.{StepFault}
 use Rattle.strand_modules.specs.Bank.{BankSeen, Keeps, front_written, loads_accepted, stores_accepted}
-use Rattle.strand_rules.specs.Images.{persistent_image}
 use Rattle.strand_rules.specs.Machine.{program_of, start_of, durable_persists}
-use Rattle.strand_rules.specs.Cycle.{State, run, durable_set}
-use Rattle.strand_rules.specs.Run.{CanFail, writes_of}
+use Rattle.strand_rules.specs.Run.{CanFail}
 use Rattle.strand_run.specs.declared.running.Run.{Run}
 use Rattle.strand_run.specs.declared.running.RunEnd.{RunEnd}
 use Rattle.strand_run.specs.declared.running.RunEnd.TheVariants.{FillRefused, ReadRefused, Told}
-use Rattle.strand_run.specs.Fault.{Fault, absent, fetch, fill, step, read, step_and_read, ShownByBank}
-use Rattle.strand_run.specs.Stepping.{steps_made, bubbles_in}
+use Rattle.strand_run.specs.Fault.{Course, fill, ran, ShownByBank}
+use Rattle.strand_run.specs.Inputs.{Inputs, writes_after}
+use Rattle.strand_run.specs.Seen.{image_after, shown, view_after, AreHeld}
+use Rattle.strand_run.specs.Stepping.{steps_made}
 
--- the state after some steps of an image's cores
-abbrev pub state_after : Settings → Parts → List Step → State
-state_after g p steps = run g (program_of p) (start_of p) steps
+-- the courses that a run may take on a bank of so many modules: the store that is refused is that of a step which would be done
+abbrev pub Allows : ℕ → Inputs → Course → Type 0
+Allows count u (fill m) = m < count
+Allows count u (ran store read) = IfSome store (CanFail u.config (program_of u.image) (start_of u.image) u.steps count) × IfSome read (λ n. n < count)
 
--- the persistent words that the durable set of a state leaves
-abbrev pub words_of_state : Parts → State → List ℕ
-words_of_state p s = persistent_image p.persistent s.now.trace (durable_set s)
-
--- Step k, counted from 1, would be done and stores in module m of so many.
-abbrev pub StepStores : ℕ → Settings → Parts → List Step → ℕ → ℕ → Type 0
-StepStores count g p steps k m = CanFail g (program_of p) (start_of p) steps count (record { step = k; «module» = m })
-
--- the faults of a bank of so many modules that an image and its steps allow
-abbrev pub Allows : ℕ → Settings → Parts → List Step → Fault → Type 0
-Allows count g p steps absent = Unit {0}
-Allows count g p steps (fetch k) = ⊥
-Allows count g p steps (fill m) = m < count
-Allows count g p steps (step k m) = StepStores count g p steps k m
-Allows count g p steps (read m) = m < count
-Allows count g p steps (step_and_read k m n) = StepStores count g p steps k m × (n < count)
-
--- The bank's first words are the persistent words of the state after some steps, the others are as before.
-abbrev pub StandsAfter : Settings → Parts → List Step → BankSeen → BankSeen → Type 0
-StandsAfter g p steps before after = after.told ≡ front_written (words_of_state p (state_after g p steps)) before.told
+-- The bank's first words are the image of the durable set after some steps, the others are as before.
+abbrev pub StandsAfter : Inputs → List Step → BankSeen → BankSeen → Type 0
+StandsAfter u steps before after = after.told ≡ front_written (image_after u steps) before.told
 
 -- The first n words of the image were stored, but not all.
-abbrev pub FilledTo : Parts → ℕ → BankSeen → BankSeen → Type 0
-FilledTo p n before after = (n < length p.persistent) × (after.told ≡ front_written (take n p.persistent) before.told)
+abbrev pub FilledTo : Inputs → ℕ → BankSeen → BankSeen → Type 0
+FilledTo u n before after = (n < length u.image.persistent) × (after.told ≡ front_written (take n u.image.persistent) before.told)
 
 -- The modules accepted so many stores and so many loads.
 abbrev pub Accepts : ℕ → ℕ → BankSeen → BankSeen → Type 0
 Accepts stores loads before after = after.accepted ≡ loads_accepted loads (stores_accepted stores before.accepted)
 
 -- The bank was filled and the steps were made, and then so many words were read.
-abbrev pub RanAndRead : Settings → Parts → List Step → ℕ → BankSeen → BankSeen → Type 0
-RanAndRead g p steps count before after =
-    StandsAfter g p steps before after × Accepts (length p.persistent + writes_of g (program_of p) (start_of p) steps) count before after
+abbrev pub RanAndRead : Inputs → List Step → ℕ → BankSeen → BankSeen → Type 0
+RanAndRead u steps count before after = StandsAfter u steps before after × Accepts (length u.image.persistent + writes_after u steps) count before after
 
 -- The next word to read, number n, is of module m.
-abbrev pub RanToRefusal : Settings → Parts → List Step → ℕ → BankSeen → BankSeen → Type 0
-RanToRefusal g p steps m before after = (n : ℕ) × (n < length p.persistent) × (m ≡ n % length before.faults) × RanAndRead g p steps n before after
+abbrev pub RanToRefusal : Inputs → List Step → ℕ → BankSeen → BankSeen → Type 0
+RanToRefusal u steps m before after = (n : ℕ) × (n < length u.image.persistent) × (m ≡ n % length before.faults) × RanAndRead u steps n before after
+
+-- all words were read, or those up to the refusal
+abbrev pub RanTo : Inputs → List Step → Option ℕ → BankSeen → BankSeen → Type 0
+RanTo u steps None before after = RanAndRead u steps (length u.image.persistent) before after
+RanTo u steps (Some m) before after = RanToRefusal u steps m before after
 
 -- what stands in the bank, and how many calls its modules accepted
-abbrev pub Leaves : Settings → Parts → List Step → Fault → BankSeen → BankSeen → Type 0
-Leaves g p steps absent before after = RanAndRead g p steps (length p.persistent) before after
-Leaves g p steps (fetch k) before after = after ≡ before
-Leaves g p steps (fill m) before after = (n : ℕ) × (m ≡ n % length before.faults) × FilledTo p n before after × Accepts n 0 before after
-Leaves g p steps (step k m) before after = RanAndRead g p (take (k - 1) steps) (length p.persistent) before after
-Leaves g p steps (read m) before after = RanToRefusal g p steps m before after
-Leaves g p steps (step_and_read k m n) before after = RanToRefusal g p (take (k - 1) steps) n before after
+abbrev pub Leaves : Inputs → Course → BankSeen → BankSeen → Type 0
+Leaves u (fill m) before after = (n : ℕ) × (m ≡ n % length before.faults) × FilledTo u n before after × Accepts n 0 before after
+Leaves u (ran store read) before after = RanTo u (steps_made store u.steps) read before after
 
 -- Some first words of the image were stored, but not all.
-abbrev pub PartFilled : Parts → BankSeen → BankSeen → Type 0
-PartFilled p before after = (n : ℕ) × FilledTo p n before after
+abbrev pub PartFilled : Inputs → BankSeen → BankSeen → Type 0
+PartFilled u before after = (n : ℕ) × FilledTo u n before after
 
--- What may stand where no memory was left: the bank as at entry, filled in part, or as after some number of the steps.
-abbrev pub MayLeave : Settings → Parts → List Step → BankSeen → BankSeen → Type 0
-MayLeave g p steps before after = (after ≡ before) ⊎ (PartFilled p before after ⊎ ((n : ℕ) × (n ≤ length steps) × StandsAfter g p (take n steps) before after))
+-- The bank is as after some first steps.
+abbrev pub StandsAfterSome : Inputs → BankSeen → BankSeen → Type 0
+StandsAfterSome u before after = (n : ℕ) × (n ≤ length u.steps) × StandsAfter u (take n u.steps) before after
 
--- the fault of a run whose words were read, and of one where module n refused that
-abbrev pub fault_of : Option StepFault → Fault
-fault_of None = absent
-fault_of (Some f) = step f.step f.«module»
+-- The modules accepted no more calls than those of the fill, of all steps and of the read.
+pub record AcceptsFew (u : Inputs) (before after : BankSeen) : Type 0 where
+  pub stores : ℕ
+  pub loads : ℕ
+  pub few_stores : stores ≤ length u.image.persistent + writes_after u u.steps
+  pub few_loads : loads ≤ length u.image.persistent
+  pub accepts : Accepts stores loads before after
 
-abbrev pub then_read : Option StepFault → ℕ → Fault
-then_read None n = read n
-then_read (Some f) n = step_and_read f.step f.«module» n
+-- What may stand where no memory was left: the bank as at entry, filled in part, or as after some first steps.
+pub record MayLeave (u : Inputs) (before after : BankSeen) : Type 0 where
+  pub stands : (after.told ≡ before.told) ⊎ (PartFilled u before after ⊎ StandsAfterSome u before after)
+  pub accepted : AcceptsFew u before after
 
--- What is told of a run: the machine and the bubbles after the steps that were made; and the words that were read, which are those of the durable set where the bank tells its words.
-pub record Tells (g : Settings) (p : Parts) (steps : List Step) (before : BankSeen) (r : Run) : Type 0 where
-  pub made : r.machine.made ≡ length (steps_made r.fault steps)
-  pub config : r.machine.config ≡ g
-  pub program : r.machine.program ≡ program_of p
-  pub state : r.machine.state ≡ state_after g p (steps_made r.fault steps)
-  pub bubbles : r.bubbles.items ≡ bubbles_in g (program_of p) (start_of p) (steps_made r.fault steps)
-  pub count : length r.held.items ≡ length p.persistent
-  pub held : OnSome before.told (r.held.items ≡ words_of_state p (state_after g p (steps_made r.fault steps)))
+-- what a report shows of a run
+abbrev pub view_of : Run → View
+view_of r = shown r.machine.made r.machine.state.now r.bubbles.items r.held.items (durable_persists r.machine.state) r.fault
 
-abbrev pub IsEnd : Settings → Parts → List Step → BankSeen → RunEnd → Fault → Type 0
-IsEnd g p steps before (FillRefused m) fault = fault ≡ fill m
-IsEnd g p steps before (ReadRefused n) fault = (f : Option StepFault) × (fault ≡ then_read f n)
-IsEnd g p steps before (Told r) fault = (fault ≡ fault_of r.fault) × Tells g p steps before r
+-- What is told of a run: the steps that were made, and the words that were read.
+pub record Tells (u : Inputs) (before : BankSeen) (r : Run) : Type 0 where
+  pub size : r.machine.program.sizes.persistent ≡ length u.image.persistent
+  pub view : view_of r ≡ view_after u (steps_made r.fault u.steps) r.held.items r.fault
+  pub held : AreHeld u (steps_made r.fault u.steps) before r.held.items
 
--- An image and its steps were run on a bank: this is the end, for one fault of the bank that they allow.
-pub record RunsTo (g : Settings) (p : Parts) (steps : List Step) (before after : BankSeen) (end : RunEnd) : Type 0 where
-  pub fault : Fault
-  pub allowed : Allows (length before.faults) g p steps fault
+abbrev pub IsEnd : Inputs → BankSeen → RunEnd → Course → Type 0
+IsEnd u before (FillRefused m) fault = fault ≡ fill m
+IsEnd u before (ReadRefused n) fault = (f : Option StepFault) × (fault ≡ ran f (Some n))
+IsEnd u before (Told r) fault = (fault ≡ ran r.fault None) × Tells u before r
+
+-- This was run on a bank, and so it ended, by one course that it may take.
+pub record RunsTo (u : Inputs) (before after : BankSeen) (end : RunEnd) : Type 0 where
+  pub fault : Course
+  pub allowed : Allows (length before.faults) u fault
   pub shown : ShownByBank before after fault
   pub kept : Keeps before after
-  pub leaves : Leaves g p steps fault before after
-  pub is : IsEnd g p steps before end fault
-
--- the report of a run that was told, with a chain of its persists by their numbers
-abbrev pub report_of : Run → List ℕ → List ℕ
-report_of r chain = run_text r.machine.made r.machine.state.now.cores r.machine.state.now.trace r.bubbles.items r.machine.state.now.memory r.held.items (durable_persists r.machine.state) chain r.fault
-
--- The text is the report of a run that was told, with the chosen chain of its trace.
-pub record ReportsRun (mode : Mode) (r : Run) (text : List ℕ) : Type 0 where
-  pub chain : List ℕ
-  pub chosen : IsChosenChain mode r.machine.state.now.trace chain
-  pub is : text ≡ report_of r chain
+  pub leaves : Leaves u fault before after
+  pub is : IsEnd u before end fault

@@ -1,15 +1,34 @@
+ghost use Rattle.std.specs.Prelude.{◌≡◌, IfOk};
+ghost use Rattle.std.specs.Option.{option_map};
 ghost use Rattle.strand_base.specs.Puts.{Puts};
-ghost use Rattle.strand_run.specs.Outcome.{report_of};
+ghost use Rattle.strand_report.specs.Report.{report_text};
+ghost use Rattle.strand_run.specs.Outcome.{view_of};
+ghost use Rattle.strand_run.specs.Seen.{Reports, store_fault};
 
 use crate::running::Run;
+use std::alloc::Global;
 use strand_base::OutOfMemory;
-use strand_report::{RunView, write_run};
+use strand_inputs::Mode;
+use strand_order::build;
+use strand_path::{Path, longest};
+use strand_report::{ModuleFault, ModulePhase, RunView, write_run};
+use strand_rules::StepFault;
 
-/// Appends the report of a run (docs/FORMATS.md), where `chain` is the chosen chain by the numbers of its persists.
-///
-/// `OutOfMemory`: a front of the report is appended.
-pub(crate) fn write_report(run: &Run, chain: &[u32], into: &mut Vec<u8>) -> Result<(), OutOfMemory>
-    ensures { Puts result (report_of run.now chain.now) into.old.items into.new.items }
+// The fault of a module that the refused store of a step is.
+fn module_fault(fault: Option<StepFault>) -> Option<ModuleFault>
+    ensures { result ≡ option_map store_fault fault }
+{
+    let fault = fault?;
+    Some(ModuleFault {
+        module: fault.module,
+        phase: ModulePhase::Step { cycle: fault.step },
+    })
+}
+
+// Appends the report of a run with this path.
+fn put_report(run: &Run, path: &Path, into: &mut Vec<u8>) -> Result<(), OutOfMemory>
+    ensures { Puts result (report_text (view_of run.now) path.now.chain)
+        into.old.items into.new.items }
 {
     let visible = run.machine.flatten()?;
     let view = RunView {
@@ -20,8 +39,19 @@ pub(crate) fn write_report(run: &Run, chain: &[u32], into: &mut Vec<u8>) -> Resu
         visible: &visible,
         held: &run.held,
         durable: run.machine.durable(),
-        chain,
-        fault: run.fault,
+        path,
+        fault: module_fault(run.fault),
     };
     write_run(&view, into)
+}
+
+/// The report of a run under this mode, with the chosen chain of its trace (docs/FORMATS.md).
+pub fn report(alloc: Global, run: &Run, mode: Mode) -> Result<Vec<u8>, OutOfMemory>
+    ensures { IfOk result (λ text. Reports mode (view_of run.now) text.items) }
+{
+    let graph = build(alloc, run.machine.trace(), mode)?;
+    let path = longest(alloc, &graph)?;
+    let mut text = Vec::new(alloc);
+    put_report(run, &path, &mut text)?;
+    Ok(text)
 }

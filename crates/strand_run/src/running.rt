@@ -1,6 +1,7 @@
 ghost use Rattle.std.specs.Prelude.{◌≡◌, ◌≤◌, All, length, IfOk, OnErr};
 ghost use Rattle.strand_inputs.specs.Schedule.{IsBelow};
 ghost use Rattle.strand_modules.specs.Bank.{Keeps};
+ghost use Rattle.strand_run.specs.Inputs.{inputs};
 ghost use Rattle.strand_run.specs.Outcome.{MayLeave, RunsTo};
 
 use crate::reading::{ReadFault, read_words};
@@ -10,8 +11,7 @@ use strand_base::OutOfMemory;
 use strand_image::Image;
 use strand_inputs::{Config, Step};
 use strand_modules::{AtModule, ModuleBank};
-use strand_report::{BubbleAt, StepFault};
-use strand_rules::PlainMachine;
+use strand_rules::{BubbleAt, PlainMachine, StepFault};
 
 /// What a run came to whose words were read at the end.
 #[derive(Drop)]
@@ -49,8 +49,10 @@ pub fn run_image(
     requires room { length image.now.persistent ≤ bank.old.size }
     requires few { length steps.now ≤ 200000 }
     requires below { All (IsBelow (length image.now.entries) config.now.buffers) steps.now }
-    ensures ran { IfOk result (λ end. RunsTo config.now image.now steps.now bank.old bank.new end) }
-    ensures memory { OnErr result (Keeps bank.old bank.new × MayLeave config.now image.now steps.now bank.old bank.new) }
+    ensures ran { IfOk result
+        (RunsTo (inputs config.now image.now steps.now) bank.old bank.new) }
+    ensures memory { OnErr result (Keeps bank.old bank.new
+        × MayLeave (inputs config.now image.now steps.now) bank.old bank.new) }
 {
     let mut machine = PlainMachine::new(alloc, config, image, steps.len() as u64)?;
     let mut bubbles = Vec::with_capacity(alloc, steps.len())?;

@@ -4,8 +4,7 @@ ghost use Rattle.strand_run.specs.Stepping.{MakesSteps};
 
 use strand_inputs::Step;
 use strand_modules::ModuleBank;
-use strand_report::{BubbleAt, StepFault};
-use strand_rules::{PlainMachine, Turn};
+use strand_rules::{BubbleAt, PlainMachine, StepFault, Turn};
 
 /// Makes the steps, up to the first whose store a module refuses, and notes those that did nothing.
 pub fn make_steps(
@@ -15,11 +14,13 @@ pub fn make_steps(
     bubbles: &mut Vec<BubbleAt>,
 ) -> Option<StepFault>
     requires room { machine.old.made + length steps.now ≤ machine.old.steps }
-    requires below { All (IsBelow (length machine.old.state.now.cores) machine.old.config.buffers) steps.now }
+    requires below { All
+        (IsBelow (length machine.old.state.now.cores) machine.old.config.buffers) steps.now }
     requires bank { machine.old.program.sizes.persistent ≤ bank.old.size }
     requires space { length steps.now ≤ vec_capacity bubbles.old }
     requires empty { bubbles.old.items ≡ [] }
-    ensures { MakesSteps machine.old machine.new steps.now bank.old bank.new bubbles.new.items result }
+    ensures { MakesSteps machine.old machine.new steps.now
+        bank.old bank.new bubbles.new.items result }
 {
     for (i, step) in steps.iter().enumerate() {
         match machine.step(*step, bank) {

@@ -3,36 +3,23 @@ ghost use Rattle.std.specs.Prelude.{◌≡◌, length, IfOk};
 ghost use Rattle.strand_judge.specs.Verdicts.{IsVerdict};
 ghost use Rattle.strand_judge.specs.Words.{crash_of};
 ghost use Rattle.strand_report.specs.Trace.{trace_text};
-ghost use Rattle.strand_run.specs.Outcome.{ReportsRun};
+ghost use Rattle.strand_run.specs.Outcome.{view_of};
 
-use crate::reporting::write_report;
 use crate::running::Run;
 use std::alloc::Global;
 use strand_base::OutOfMemory;
 use strand_inputs::Mode;
 use strand_judge::{Verdict, judge};
 use strand_order::build;
-use strand_path::longest;
 use strand_report::write_trace;
-
-/// The report of a run under this mode, with the chosen chain of its trace (docs/FORMATS.md).
-pub fn report(alloc: Global, run: &Run, mode: Mode) -> Result<Vec<u8>, OutOfMemory>
-    ensures { IfOk result (λ text. ReportsRun mode run.now text.items) }
-{
-    let graph = build(alloc, run.machine.trace(), mode)?;
-    let path = longest(alloc, &graph)?;
-    let mut text = Vec::new(alloc);
-    write_report(run, path.chain.as_slice(), &mut text)?;
-    Ok(text)
-}
 
 /// The events of a run and the edges of their graph under this mode, as text (docs/FORMATS.md).
 pub fn trace(alloc: Global, run: &Run, mode: Mode) -> Result<Vec<u8>, OutOfMemory>
-    ensures { IfOk result (λ text. text.items ≡ trace_text mode run.now.machine.state.now.trace) }
+    ensures { IfOk result (λ text. text.items ≡ trace_text mode (view_of run.now).trace) }
 {
     let graph = build(alloc, run.machine.trace(), mode)?;
     let mut text = Vec::new(alloc);
-    write_trace(&graph, &mut text)?;
+    write_trace(&graph, run.machine.trace(), &mut text)?;
     Ok(text)
 }
 
@@ -46,7 +33,8 @@ pub fn verdict(
 ) -> Result<Verdict, OutOfMemory>
     requires initial { run.now.machine.program.sizes.persistent ≡ length initial.now }
     requires crash { length crash.now ≡ length initial.now }
-    ensures { IfOk result (IsVerdict mode run.now.machine.state.now.trace (crash_of initial.now crash.now)) }
+    ensures { IfOk result
+        (IsVerdict mode (view_of run.now).trace (crash_of initial.now crash.now)) }
 {
     let trace = run.machine.trace();
     let graph = build(alloc, trace, mode)?;

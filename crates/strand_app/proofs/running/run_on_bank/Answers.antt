@@ -1,13 +1,20 @@
-use Rattle.strand_app.specs.CommandView.{told_by}
-use Rattle.strand_app.specs.Opening.{setup_in}
-use Rattle.strand_app.proofs.Ran.{makes_on_bank, left_of, of_image}
+use Rattle.std.proofs.Common.{refl, subst}
+use Rattle.strand_inputs.specs.declared.mode.Mode.{Mode}
+use Rattle.strand_run.specs.Outcome.{RunsTo, view_of}
+use Rattle.strand_run.specs.Seen.{Reports}
+use Rattle.strand_app.specs.Opening.{inputs_of}
+use Rattle.strand_app.proofs.Ran.{may_of, ran_refused}
 use Rattle.strand_app.proofs.running.run_on_bank.Goals as goal
 
-pub returns-clause-made : goal.returns-clause-made
-returns-clause-made c = makes_on_bank (told_by c.args.telling) (setup_in c.args.files.now) c.args.bank.now c.run_image.new.bank c.in_ok-end.end c.tell.result (rw c.steps.ensures.steps at c.in_ok-end.ensures.ran) c.tell.ensures
+pub returns-in-ReadRefused-clause-memory : goal.returns-in-ReadRefused-clause-memory
+returns-in-ReadRefused-clause-memory c = may_of (inputs_of c.args.setup.now) c.args.bank.now c.run_setup.new.bank c.refused-in-ReadRefused.result c.in_ok-module.field-0 c.in_ok-module.ensures.ran
 
-pub returns-clause-memory : goal.returns-clause-memory
-returns-clause-memory c = left_of _ _ _ c.args.bank.now c.run_image.new.bank c.in_ok-end.end c.tell.result (rw c.steps.ensures.steps at c.in_ok-end.ensures.ran)
+pub returns-in_err-report-in-Told-clause-memory : goal.returns-in_err-report-in-Told-clause-memory
+returns-in_err-report-in-Told-clause-memory c =
+    may_of (inputs_of c.args.setup.now) c.args.bank.now c.run_setup.new.bank c.from_residual-in_err-report-in-Told.result c.in_ok-module.field-0 c.in_ok-module.ensures.ran
 
-pub tell-requires-clause-image : goal.tell-requires-clause-image
-tell-requires-clause-image c = of_image _ _ _ _ _ c.in_ok-end.end c.in_ok-end.ensures.ran
+pub returns-in_ok-report-in-Told-clause-ran : goal.returns-in_ok-report-in-Told-clause-ran
+returns-in_ok-report-in-Told-clause-ran c =
+    let u = inputs_of c.args.setup.now in
+    ran_refused u c.args.bank.now c.run_setup.new.bank c.in-Told.run' _ (subst (RunsTo u c.args.bank.now c.run_setup.new.bank) c.in-Told.is c.in_ok-module.ensures.ran) c.if-is_none.ensures refl
+    (subst (λ (m : Mode). Reports m (view_of c.in-Told.run') c.in_ok-report-in-Told.field-0.items) c.mode.ensures c.in_ok-report-in-Told.ensures)

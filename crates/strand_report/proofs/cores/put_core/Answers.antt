@@ -3,7 +3,7 @@ use Rattle.std.proofs.lemmas.Result.{err_from_is_err_and}
 use Rattle.strand_base.proofs.Fronts.{front_before, puts_after}
 use Rattle.strand_exec.specs.Core.{Core}
 use Rattle.strand_report.specs.Numbered.{numbered}
-use Rattle.strand_report.specs.Report.{core_line, reg_line}
+use Rattle.strand_report.specs.Cores.{core_line, reg_line}
 use Rattle.strand_report.proofs.cores.put_core.Goals as goal
 
 pub returns-in_err-put_core_line : goal.returns-in_err-put_core_line

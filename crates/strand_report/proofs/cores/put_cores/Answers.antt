@@ -1,6 +1,6 @@
 use Rattle.std.proofs.Common.{arith}
 use Rattle.std.proofs.lemmas.Result.{err_from_is_err_and}
-use Rattle.strand_report.specs.Report.{core_lines}
+use Rattle.strand_report.specs.Cores.{core_lines}
 use Rattle.strand_report.proofs.Numbered.{numbered_more, numbered_stops, numbered_all}
 use Rattle.strand_report.proofs.cores.put_cores.Goals as goal
 

@@ -1,5 +1,5 @@
 use Rattle.std.proofs.Common.{◌≡◌, ◌++◌}
-use Rattle.strand_report.specs.Report.{core_lines}
+use Rattle.strand_report.specs.Cores.{core_lines}
 use Rattle.strand_report.proofs.Numbered.{numbered_so_far}
 use Rattle.strand_report.proofs.cores.put_cores.Given as goal
 

@@ -1,5 +1,5 @@
 use Rattle.std.proofs.Common.{◌≡◌, ◌++◌}
-use Rattle.strand_report.specs.Report.{reg_line}
+use Rattle.strand_report.specs.Cores.{reg_line}
 use Rattle.strand_report.proofs.Numbered.{numbered_so_far}
 use Rattle.strand_report.proofs.cores.put_regs.Given as goal
 

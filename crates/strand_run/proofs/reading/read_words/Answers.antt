@@ -1,4 +1,6 @@
-use Rattle.std.proofs.Common.{◌≡◌, ◌∙◌, ◌∷◌, [], ap, refl, arith, length, length-append}
+use Rattle.std.proofs.Common.{◌≡◌, ◌∙◌, ◌+◌, ◌∷◌, [], ap, refl, arith, length, length-append}
+use Rattle.std.specs.Prelude.{Err}
+use Rattle.std.proofs.lemmas.Result.{err_from_is_err_and}
 use Rattle.strand_modules.proofs.Counted.{loads_none, loads_again}
 use Rattle.strand_modules.proofs.Fronts.{keeps_same, keeps_trans, refuses_after}
 use Rattle.strand_run.proofs.OneByOne.{read_more, read_none}
@@ -49,3 +51,17 @@ returns c =
       counted = rw all at c.loop-i.invariant.3;
       failed = tt;
     }
+
+pub returns-in_err-push-in-Ok : goal.returns-in_err-push-in-Ok
+returns-in_err-push-in-Ok c = let e = err_from_is_err_and c.from_residual.result c.from_residual.ensures.1 in rw (e.1 ∙ ap Err e.2) record {
+  kept = keeps_trans _ _ _ c.loop-i.invariant.0 c.in-Ok.ensures.kept;
+  same = c.in-Ok.ensures.same ∙ c.loop-i.invariant.2;
+  length_is = tt;
+  words_are = tt;
+  accepted = tt;
+  counted = tt;
+  failed = (
+    c.in-Ok.ensures.accepted ∙ c.loop-i.invariant.1,
+    (c.loop-i.i + 1, omega (arith, c.loop-i-test.true), loads_again _ _ _ c.loop-i.i 1 c.loop-i.invariant.3 c.in-Ok.ensures.counted),
+  );
+}

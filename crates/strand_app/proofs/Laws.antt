@@ -1,0 +1,22 @@
+-- What every rule owes, for the clauses of the whole call.
+use Rattle.std.specs.Prelude.{IsSomeAnd}
+use Rattle.std.specs.declared.option.Option.{Option}
+use Rattle.strand_modules.specs.Bank.{BankSeen}
+use Rattle.strand_run.specs.Fault.{Course}
+use Rattle.strand_app.specs.declared.status.Status.{Status}
+use Rattle.strand_app.specs.declared.status.Status.TheVariants as status
+use Rattle.strand_app.specs.Causes.{TellsRefusal}
+use Rattle.strand_app.specs.Rule.{Rule, Text}
+
+-- What each answer means that a rule puts, where the words are no command by W.
+abbrev pub Means : (r : Rule) → Type 0 → r.Found → Option Course → Status → Text → Type 0
+Means r W found f status.Ok text = Unit {0}
+Means r W found f status.No text = r.Refutes found text
+Means r W found f status.Words text = W
+Means r W found f status.ModuleFault text = IsSomeAnd f (λ b. TellsRefusal b text)
+Means r W found f _ text = ⊥
+
+pub record Sound (r : Rule) (W : Type 0) : Type 0 where
+  pub means : (found : r.Found) (f : Option Course) (end : Status) (text : Text) → r.Puts found f end text → Means r W found f end text
+  pub holds : (found : r.Found) (f : Option Course) (after : BankSeen) → r.Leaves found f after → r.Holds found f after
+  pub may : (found : r.Found) (after : BankSeen) → r.MayLeave found after → r.MayHold found after

@@ -1,0 +1,106 @@
+-- Each command's rule keeps to the laws.
+use Rattle.std.proofs.Common.{◌≡◌, ◌∙◌, ℕ, ◌-◌, List, take, refl, sym, subst}
+use Rattle.std.specs.Prelude.{Some, None}
+use Rattle.std.specs.declared.option.Option.{Option}
+use Rattle.strand_judge.specs.Verdicts.{IsVerdict}
+use Rattle.strand_judge.specs.Words.{crash_of}
+use Rattle.strand_judge.specs.declared.verdict.Verdict.{Verdict}
+use Rattle.strand_judge.specs.declared.verdict.Verdict.TheVariants.{Yes, No}
+use Rattle.strand_modules.specs.Bank.{BankSeen}
+use Rattle.strand_report.specs.Verdict.{verdict_text}
+use Rattle.strand_report.proofs.LastLine.{last_line}
+use Rattle.strand_rules.specs.declared.turn.StepFault.{StepFault}
+use Rattle.strand_run.specs.Fault.{Course, fill, ran}
+use Rattle.strand_run.specs.Inputs.{Inputs}
+use Rattle.strand_run.specs.Seen.{ReportsRun, visible_after, view_after, store_fault}
+use Rattle.strand_run.proofs.Allowed.{leaves_allowed, may_leave_allowed}
+use Rattle.strand_app.specs.declared.status.Status.{Status}
+use Rattle.strand_app.specs.declared.status.Status.TheVariants as status
+use Rattle.strand_app.specs.Causes.{EndsWith, TellsRefusal}
+use Rattle.strand_app.specs.Command.{Command, asm, list, run, judge, trace}
+use Rattle.strand_app.specs.Commands.Judge.{Question, PutsVerdict, RefutesCrash, verdict_status}
+use Rattle.strand_app.specs.Commands.Run.{PutsReport}
+use Rattle.strand_app.specs.Commands.Trace.{PutsTrace}
+use Rattle.strand_app.specs.Machine.{PutsRun, machine_rule}
+use Rattle.strand_app.specs.NoCommand.{no_command}
+use Rattle.strand_app.specs.Reads.{Contents, Reads}
+use Rattle.strand_app.specs.Rule.{Rule, Text}
+use Rattle.strand_app.specs.RuleOf.{rule_of}
+use Rattle.strand_app.specs.Still.{still_rule}
+use Rattle.strand_app.proofs.Laws.{Means, Sound}
+
+no_command_sound : (before : BankSeen) (W : Type 0) → W → Sound (no_command before) W
+no_command_sound before W w = record {
+  means = λ found f end text puts. subst (λ (s : Status). Means (no_command before) W found f s text) (sym puts.0) w;
+  holds = λ found f after leaves. leaves;
+  may = λ found after may. may;
+}
+
+still_sound : (Found : Type 0) (names : List (List ℕ)) (opens : Contents → Reads Found) (text_of : Found → Text) (before : BankSeen) (W : Type 0) → Sound (still_rule Found names opens text_of before) W
+still_sound Found names opens text_of before W = record {
+  means = λ found f end text puts. subst (λ (s : Status). Means (still_rule Found names opens text_of before) W found f s text) (sym puts.0) tt;
+  holds = λ found f after leaves. leaves;
+  may = λ found after may. may;
+}
+
+-- what each answer of a run means that met no refusal: it is ok, or a no with its refutation
+abbrev Meant : (Refutes : Text → Type 0) → Status → Text → Type 0
+Meant Refutes status.Ok text = Unit {0}
+Meant Refutes status.No text = Refutes text
+Meant Refutes _ text = ⊥
+
+module _ (Found : Type 0) (inputs_of : Found → Inputs) (Whole : Found → BankSeen → Status → Text → Type 0) (Refutes : Found → Text → Type 0) (names : List (List ℕ)) (opens : Contents → Reads Found) (before : BankSeen) (W : Type 0)
+    (meant : (found : Found) (end : Status) (text : Text) → Whole found before end text → Meant (Refutes found) end text) where
+  abbrev r : Rule
+  r = machine_rule Found inputs_of Whole Refutes names opens before
+
+  of_refusal : (found : Found) (b : Course) (end : Status) (text : Text) → end ≡ status.ModuleFault → TellsRefusal b text → Means r W found (Some b) end text
+  of_refusal found b end text is tells = subst (λ (s : Status). Means r W found (Some b) s text) (sym is) tells
+
+  of_meant : (found : Found) (b : Course) (end : Status) (text : Text) → Meant (Refutes found) end text → Means r W found (Some b) end text
+  of_meant found b status.Ok text is = tt
+  of_meant found b status.No text is = is
+  of_meant found b _ text is = absurd is
+
+  -- a report with a refused store ends with its line
+  last : (u : Inputs) (f : StepFault) (text : Text) → ReportsRun u (take (f.step - 1) u.steps) before (Some f) text → EndsWith (store_fault f) text
+  last u f text puts =
+      let ends = last_line (view_after u (take (f.step - 1) u.steps) puts.held (Some f)) puts.reports.chain (store_fault f) refl in (ends.0, puts.reports.is ∙ ends.1)
+
+  of_run : (found : Found) (b : Course) (end : Status) (text : Text) → PutsRun (inputs_of found) before (Whole found before) b end text → Means r W found (Some b) end text
+  of_run found (fill m) end text puts = of_refusal found (fill m) end text puts.0 puts.1
+  of_run found (ran store (Some n)) end text puts = of_refusal found (ran store (Some n)) end text puts.0 puts.1
+  of_run found (ran (Some f) None) end text puts = of_refusal found (ran (Some f) None) end text puts.0 (last (inputs_of found) f text puts.1)
+  of_run found (ran None None) end text puts = of_meant found (ran None None) end text (meant found end text puts)
+
+  of_puts : (found : Found) (f : Option Course) (end : Status) (text : Text) → r.Puts found f end text → Means r W found f end text
+  of_puts found None end text puts = absurd puts
+  of_puts found (Some b) end text puts = of_run found b end text puts
+
+  of_leaves : (found : Found) (f : Option Course) (after : BankSeen) → r.Leaves found f after → r.Holds found f after
+  of_leaves found None after leaves = absurd leaves
+  of_leaves found (Some b) after leaves = leaves_allowed (inputs_of found) b before after leaves
+
+  machine_sound : Sound r W
+  machine_sound = record { means = of_puts; holds = of_leaves; may = λ found after may. may_leave_allowed (inputs_of found) before after may }
+
+report_meant : (u : Inputs) (before : BankSeen) (end : Status) (text : Text) → PutsReport u before end text → Meant (λ t. ⊥) end text
+report_meant u before end text puts = subst (λ (s : Status). Meant (λ t. ⊥) s text) (sym puts.0) tt
+
+trace_meant : (u : Inputs) (before : BankSeen) (end : Status) (text : Text) → PutsTrace u before end text → Meant (λ t. ⊥) end text
+trace_meant u before end text puts = subst (λ (s : Status). Meant (λ t. ⊥) s text) (sym puts.0) tt
+
+verdict_meant : (q : Question) (end : Status) (text : Text) → PutsVerdict q end text → Meant (RefutesCrash q) end text
+verdict_meant q end text puts = subst (λ (s : Status). Meant (RefutesCrash q) s text) (sym puts.status) (go puts.judged puts.is puts.line)
+  where
+    go : (judged : Verdict) → IsVerdict q.run.config.mode (visible_after q.run q.run.steps).trace (crash_of q.run.image.persistent q.crash) judged → text ≡ verdict_text judged → Meant (RefutesCrash q) (verdict_status judged) text
+    go (Yes members) is line = tt
+    go (No word rank) is line = record { word = word; rank = rank; none = is.no; refuted = is.word; line = line }
+
+pub sound_of : (command : Option Command) (before : BankSeen) → Sound (rule_of command before) (command ≡ None)
+sound_of None before = no_command_sound before _ refl
+sound_of (Some (asm text)) before = still_sound _ _ _ _ before _
+sound_of (Some (list image)) before = still_sound _ _ _ _ before _
+sound_of (Some (run machine image schedule stop)) before = machine_sound Inputs (λ u. u) PutsReport (λ u t. ⊥) _ _ before _ (λ u. report_meant u before)
+sound_of (Some (judge machine image schedule stop crash)) before = machine_sound Question (λ q. q.run) (λ q bank. PutsVerdict q) RefutesCrash _ _ before _ verdict_meant
+sound_of (Some (trace machine image schedule stop)) before = machine_sound Inputs (λ u. u) PutsTrace (λ u t. ⊥) _ _ before _ (λ u. trace_meant u before)

@@ -1,0 +1,69 @@
+use Rattle.std.proofs.Common.{◌∙◌, ◌++◌, [], ◌∷◌, length, ap, refl, subst, sym}
+use Rattle.std.specs.Prelude.{Ok, Err}
+use Rattle.std.specs.declared.result.Result.{Result}
+use Rattle.std.proofs.lemmas.Result.{err_from_is_err_and}
+use Rattle.strand_app.specs.declared.commands.judge.Question.{Question as CodeQuestion}
+use Rattle.strand_app.specs.declared.fetching.OpenFault.{OpenFault}
+use Rattle.strand_app.specs.declared.opening.RunFiles.{RunFiles}
+use Rattle.strand_app.specs.Commands.Judge.{crash_reads, judge_reads}
+use Rattle.strand_app.specs.Contents.{crash_in}
+use Rattle.strand_app.specs.Judging.{question_of}
+use Rattle.strand_app.specs.Opening.{OpensTo, all_inputs, inputs_of, names_of}
+use Rattle.strand_app.specs.RunFiles.{run_files}
+use Rattle.strand_app.proofs.JudgeReads.{contents, first, wants_crash, refuses_crash, opens_question}
+use Rattle.strand_app.proofs.Opened.{fails_all, fails_next}
+use Rattle.strand_app.proofs.commands.judge.open_question.Goals as goal
+
+pub returns-in_err-all-clause-opens : goal.returns-in_err-all-clause-opens
+returns-in_err-all-clause-opens g c =
+    let e = err_from_is_err_and c.from_residual.result c.from_residual.ensures.1 in
+    let before = g.F.Files.seen c.args.files.now in
+    let after = g.F.Files.seen c.open_run_files.new.files in
+    let names = names_of c.args.words in
+    subst (λ (r : Result CodeQuestion OpenFault). OpensTo (names ++ c.args.crash.now ∷ []) (judge_reads c.args.size c.args.words.stop) question_of before after r) (sym (e.1 ∙ ap Err e.2))
+    (fails_all names (c.args.crash.now ∷ []) run_files (crash_reads c.args.size c.args.words.stop) all_inputs question_of before after c.in_err-all.field-0.0 c.in_err-all.ensures.opens)
+
+pub returns-in_err-crash-clause-opens : goal.returns-in_err-crash-clause-opens
+returns-in_err-crash-clause-opens g c =
+    let e = err_from_is_err_and c.from_residual-in_err-crash.result c.from_residual-in_err-crash.ensures.1 in
+    let before = g.F.Files.seen c.args.files.now in
+    let between = g.F.Files.seen c.open_run_files.new.files in
+    let after = g.F.Files.seen c.fetch_crash.new.files in
+    let names = names_of c.args.words in
+    let u = all_inputs c.in_ok-all.all in
+    let opened = c.in_ok-all.ensures.opens in
+    subst (λ (r : Result CodeQuestion OpenFault). OpensTo (names ++ c.args.crash.now ∷ []) (judge_reads c.args.size c.args.words.stop) question_of before after r) (sym (e.1 ∙ ap Err e.2))
+    (fails_next (names ++ c.args.crash.now ∷ []) before between after (contents names c.args.crash.now refl before between c.args.size c.args.words.stop u opened) c.args.crash.now
+    (first names c.args.crash.now refl before between c.args.size c.args.words.stop u opened) refl c.in_err-crash.ensures.says.0
+    (judge_reads c.args.size c.args.words.stop) question_of 4 (crash_in c.in_ok-all.all.image) (λ words. words) refl
+    (wants_crash names c.args.crash.now refl before between c.args.size c.args.words.stop u opened)
+    (refuses_crash names c.args.crash.now refl before between c.args.size c.args.words.stop u opened) c.in_err-crash.field-0.0 c.in_err-crash.ensures.says)
+
+pub returns-in_err-setup-clause-opens : goal.returns-in_err-setup-clause-opens
+returns-in_err-setup-clause-opens g c =
+    let e = err_from_is_err_and c.from_residual-in_err-setup.result c.from_residual-in_err-setup.ensures.1 in
+    let before = g.F.Files.seen c.args.files.now in
+    let between = g.F.Files.seen c.open_run_files.new.files in
+    let after = g.F.Files.seen c.fetch_crash.new.files in
+    let names = names_of c.args.words in
+    let u = all_inputs c.in_ok-all.all in
+    let opened = c.in_ok-all.ensures.opens in
+    let read = c.in_ok-crash.ensures.says in
+    subst (λ (r : Result CodeQuestion OpenFault). OpensTo (names ++ c.args.crash.now ∷ []) (judge_reads c.args.size c.args.words.stop) question_of before after r) (sym (e.1 ∙ ap Err e.2))
+    (opens_question names c.args.crash.now refl before between c.args.size c.args.words.stop u opened after read.0 c.in_ok-crash.crash read.1.content read.1.gives read.1.is refl
+    (Err c.in_err-setup.field-0.0) c.in_err-setup.ensures.settled)
+
+pub returns-clause-opens : goal.returns-clause-opens
+returns-clause-opens g c =
+    let before = g.F.Files.seen c.args.files.now in
+    let between = g.F.Files.seen c.open_run_files.new.files in
+    let after = g.F.Files.seen c.fetch_crash.new.files in
+    let names = names_of c.args.words in
+    let u = all_inputs c.in_ok-all.all in
+    let opened = c.in_ok-all.ensures.opens in
+    let read = c.in_ok-crash.ensures.says in
+    opens_question names c.args.crash.now refl before between c.args.size c.args.words.stop u opened after read.0 c.in_ok-crash.crash read.1.content read.1.gives read.1.is refl
+    (Ok (inputs_of c.in_ok-setup.setup)) c.in_ok-setup.ensures.settled
+
+pub returns-clause-ready : goal.returns-clause-ready
+returns-clause-ready g c = record { ready = c.in_ok-setup.ensures.ready; crash = c.in_ok-crash.ensures.long ∙ ap (λ (f : RunFiles). length f.image.persistent) (sym c.in_ok-setup.ensures.same) }

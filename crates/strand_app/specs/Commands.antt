@@ -1,0 +1,5 @@
+pub mod Asm
+pub mod List
+pub mod Run
+pub mod Judge
+pub mod Trace

@@ -1,0 +1,36 @@
+-- The rule of a command, for a bank as it stands at entry.
+use Rattle.std.specs.Prelude.{◌≡◌, ℕ, List, Some, None}
+use Rattle.std.specs.declared.option.Option.{Option}
+use Rattle.strand_modules.specs.Bank.{BankSeen}
+use Rattle.strand_run.specs.Fault.{Course, ShownByBank}
+use Rattle.strand_app.specs.declared.status.Status.{Status}
+use Rattle.strand_app.specs.Reads.{Contents, Reads}
+
+abbrev pub Text : Type 0
+Text = List ℕ
+
+-- What a command does with files that are not refused: its run takes one course on the bank, or it has none where it runs nothing there.
+pub record Rule : Type 1 where
+  -- the names of its files, in their order
+  pub names : List (List ℕ)
+  -- what is found in its files, and how they are read
+  pub Found : Type 0
+  pub opens : Contents → Reads Found
+  -- The run may take this course.
+  pub Allows : Found → Option Course → Type 0
+  -- By this course the call ends so and puts this, if the sink doesn't fail.
+  pub Puts : Found → Option Course → Status → Text → Type 0
+  -- By this course it leaves this bank,
+  pub Leaves : Found → Option Course → BankSeen → Type 0
+  -- and where memory ran out it may leave this one.
+  pub MayLeave : Found → BankSeen → Type 0
+  -- The headline: what persist order says of the bank that it leaves, or may leave,
+  pub Holds : Found → Option Course → BankSeen → Type 0
+  pub MayHold : Found → BankSeen → Type 0
+  -- and what a no says.
+  pub Refutes : Found → Text → Type 0
+
+-- what the bank shows of a course: where nothing was run, that it wasn't touched
+abbrev pub ShownBy : BankSeen → BankSeen → Option Course → Type 0
+ShownBy before after None = after ≡ before
+ShownBy before after (Some fault) = ShownByBank before after fault

@@ -1,0 +1,36 @@
+ghost use Rattle.strand_app.specs.Commands.Asm.{asm_rule};
+ghost use Rattle.strand_app.specs.Runs.{Comes};
+ghost use Rattle.strand_app.specs.World.{world};
+ghost use Rattle.std.specs.Prelude.{IfOk};
+ghost use Rattle.strand_app.specs.Answers.{PutsOk};
+ghost use Rattle.strand_image.specs.Image.{image_bytes};
+ghost use Rattle.strand_modules.specs.Bank.{BankSeen};
+
+use crate::contents::fetch_text;
+use crate::refusing::refuse;
+use crate::status::{Made, Status};
+use std::alloc::Global;
+use strand_base::{Files, OutOfMemory};
+use strand_image::{Image, write_image};
+
+fn image_file(alloc: Global, image: &Image) -> Result<Made, OutOfMemory>
+    ensures { IfOk result (PutsOk (image_bytes image.now)) }
+{
+    let mut text = Vec::new(alloc);
+    write_image(image, &mut text)?;
+    Ok(Made {
+        status: Status::Ok,
+        text,
+    })
+}
+
+/// `asm TEXT`: the image that an assembler text gives.
+pub fn asm_text<F: Files>(alloc: Global, text: &str, files: &mut F) -> Result<Made, OutOfMemory>
+    ensures { (bank : BankSeen) → Comes (asm_rule text.now bank)
+        (world (F.seen files.old) bank) (world (F.seen files.new) bank) result }
+{
+    match fetch_text(alloc, text, files) {
+        Ok(image) => image_file(alloc, &image),
+        Err(fault) => refuse(alloc, fault),
+    }
+}

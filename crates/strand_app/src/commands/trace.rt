@@ -1,0 +1,46 @@
+ghost use Rattle.strand_app.specs.CommandView.{trace_rule_in};
+ghost use Rattle.strand_app.specs.Commands.Trace.{PutsTrace};
+ghost use Rattle.strand_app.specs.Opening.{IsReady, inputs_of};
+ghost use Rattle.strand_app.specs.Running.{MakesOnBank};
+ghost use Rattle.strand_app.specs.Runs.{Comes};
+ghost use Rattle.strand_app.specs.World.{world};
+
+use crate::command::RunWords;
+use crate::opening::{Setup, open_run};
+use crate::refusing::refuse;
+use crate::running::{Ran, run_on_bank};
+use crate::status::{Made, Status};
+use std::alloc::Global;
+use strand_base::{Files, OutOfMemory};
+use strand_modules::ModuleBank;
+use strand_run::trace;
+
+fn trace_on_bank(alloc: Global, setup: &Setup, bank: &mut ModuleBank) -> Result<Made, OutOfMemory>
+    requires { IsReady bank.old.size setup.now }
+    ensures { MakesOnBank (inputs_of setup.now) bank.old bank.new
+        (PutsTrace (inputs_of setup.now) bank.old) result }
+{
+    match run_on_bank(alloc, setup, bank)? {
+        Ran::Whole { run } => Ok(Made {
+            status: Status::Ok,
+            text: trace(alloc, &run, setup.mode())?,
+        }),
+        Ran::Refused { made } => Ok(made),
+    }
+}
+
+/// `trace MACHINE IMAGE SCHEDULE STOP`: the events of a run and the edges of their graph.
+pub fn trace_run<F: Files>(
+    alloc: Global,
+    words: RunWords<'_>,
+    files: &mut F,
+    bank: &mut ModuleBank,
+) -> Result<Made, OutOfMemory>
+    ensures { Comes (trace_rule_in words.entry bank.old)
+        (world (F.seen files.old) bank.old) (world (F.seen files.new) bank.new) result }
+{
+    match open_run(alloc, words, bank.words(), files) {
+        Ok(setup) => trace_on_bank(alloc, &setup, bank),
+        Err(fault) => refuse(alloc, fault),
+    }
+}

@@ -1,0 +1,176 @@
+// The files of commands, each fetched and read by its rule. A file's number is its place among the names of its
+// command, from 1.
+ghost use Rattle.std.specs.Prelude.{◌≡◌, ◌≤◌, length, All, IfOk};
+ghost use Rattle.strand_app.specs.Contents.{crash_in, image_in, machine_in, schedule_in, text_in};
+ghost use Rattle.strand_app.specs.Fetching.{FetchesFile, IsSaid};
+ghost use Rattle.strand_app.specs.Opening.{image_open_fault, input_open_fault, text_open_fault};
+ghost use Rattle.strand_inputs.specs.Schedule.{IsBelow};
+
+use crate::fetching::{OpenFault, fetch};
+use std::alloc::Global;
+use strand_asm::{AsmFault, assemble};
+use strand_base::Files;
+use strand_image::{Image, ImageFault, read_image};
+use strand_inputs::{Config, InputFault, Schedule, Words, read_crash, read_machine, read_schedule};
+use strand_report::{ContentFault, Refusal};
+
+// Why file k is not known to say something, where a reader refused it.
+fn input_fault(file: u32, fault: InputFault) -> OpenFault
+    ensures { result ≡ input_open_fault file fault }
+{
+    match fault {
+        InputFault::OutOfMemory => OpenFault::OutOfMemory,
+        _ => OpenFault::Refused(Refusal::File {
+            file,
+            fault: ContentFault::Input(fault),
+        }),
+    }
+}
+
+fn image_fault(file: u32, fault: ImageFault) -> OpenFault
+    ensures { result ≡ image_open_fault file fault }
+{
+    match fault {
+        ImageFault::OutOfMemory => OpenFault::OutOfMemory,
+        _ => OpenFault::Refused(Refusal::File {
+            file,
+            fault: ContentFault::Image(fault),
+        }),
+    }
+}
+
+fn text_fault(file: u32, fault: AsmFault) -> OpenFault
+    ensures { result ≡ text_open_fault file fault }
+{
+    match fault {
+        AsmFault::OutOfMemory => OpenFault::OutOfMemory,
+        _ => OpenFault::Refused(Refusal::File {
+            file,
+            fault: ContentFault::Text(fault),
+        }),
+    }
+}
+
+fn machine_of(bytes: &[u8]) -> Result<Config, OpenFault>
+    requires { length bytes.now ≤ 4096 }
+    ensures { IsSaid 1 (λ config. config) (machine_in bytes.now) result }
+{
+    match read_machine(bytes) {
+        Ok(config) => Ok(config),
+        Err(fault) => Err(input_fault(1, fault)),
+    }
+}
+
+/// The settings of a machine file, file 1 of its command.
+pub fn fetch_machine<F: Files>(
+    alloc: Global,
+    name: &str,
+    files: &mut F,
+) -> Result<Config, OpenFault>
+    ensures { FetchesFile 1 machine_in (λ config. config) name.now
+        (F.seen files.old) (F.seen files.new) result }
+{
+    let bytes = fetch(alloc, 1, name, 4096, files)?;
+    machine_of(&bytes)
+}
+
+fn image_of(alloc: Global, file: u32, bytes: &[u8]) -> Result<Image, OpenFault>
+    requires { length bytes.now ≤ 4194304 }
+    ensures { IsSaid file (λ image. image) (image_in bytes.now) result }
+{
+    match read_image(alloc, bytes) {
+        Ok(image) => Ok(image),
+        Err(fault) => Err(image_fault(file, fault)),
+    }
+}
+
+/// The image of a file of this number.
+pub fn fetch_image<F: Files>(
+    alloc: Global,
+    file: u32,
+    name: &str,
+    files: &mut F,
+) -> Result<Image, OpenFault>
+    ensures { FetchesFile file image_in (λ image. image) name.now
+        (F.seen files.old) (F.seen files.new) result }
+{
+    let bytes = fetch(alloc, file, name, 4_194_304, files)?;
+    image_of(alloc, file, &bytes)
+}
+
+fn schedule_of(
+    alloc: Global,
+    config: &Config,
+    image: &Image,
+    bytes: &[u8],
+) -> Result<Schedule, OpenFault>
+    requires { length bytes.now ≤ 4194304 }
+    ensures says { IsSaid 3 (λ steps. steps) (schedule_in config.now image.now bytes.now) result }
+    ensures below { IfOk result (All (IsBelow (length image.now.entries) config.now.buffers)) }
+{
+    match read_schedule(alloc, bytes, image.entries().len() as u32, config.buffers) {
+        Ok(schedule) => Ok(schedule),
+        Err(fault) => Err(input_fault(3, fault)),
+    }
+}
+
+/// The steps of a schedule for the image's cores and the machine's buffers, file 3 of its command.
+pub fn fetch_schedule<F: Files>(
+    alloc: Global,
+    config: &Config,
+    image: &Image,
+    name: &str,
+    files: &mut F,
+) -> Result<Schedule, OpenFault>
+    ensures says { FetchesFile 3 (schedule_in config.now image.now) (λ steps. steps) name.now
+        (F.seen files.old) (F.seen files.new) result }
+    ensures below { IfOk result (All (IsBelow (length image.now.entries) config.now.buffers)) }
+{
+    let bytes = fetch(alloc, 3, name, 4_194_304, files)?;
+    schedule_of(alloc, config, image, &bytes)
+}
+
+fn crash_of(alloc: Global, image: &Image, bytes: &[u8]) -> Result<Words, OpenFault>
+    requires { length bytes.now ≤ 1048576 }
+    ensures says { IsSaid 4 (λ words. words) (crash_in image.now bytes.now) result }
+    ensures long { IfOk result (λ words. length words ≡ length image.now.persistent) }
+{
+    match read_crash(alloc, bytes, image.persistent().len() as u32) {
+        Ok(words) => Ok(words),
+        Err(fault) => Err(input_fault(4, fault)),
+    }
+}
+
+/// The words of a crash image, as many as the image has persistent words; file 4 of its command.
+pub fn fetch_crash<F: Files>(
+    alloc: Global,
+    image: &Image,
+    name: &str,
+    files: &mut F,
+) -> Result<Words, OpenFault>
+    ensures says { FetchesFile 4 (crash_in image.now) (λ words. words) name.now
+        (F.seen files.old) (F.seen files.new) result }
+    ensures long { IfOk result (λ words. length words ≡ length image.now.persistent) }
+{
+    let bytes = fetch(alloc, 4, name, 1_048_576, files)?;
+    crash_of(alloc, image, &bytes)
+}
+
+fn text_of(alloc: Global, bytes: &[u8]) -> Result<Image, OpenFault>
+    requires { length bytes.now ≤ 4194304 }
+    ensures { IsSaid 1 (λ image. image) (text_in bytes.now) result }
+{
+    match assemble(alloc, bytes) {
+        Ok(image) => Ok(image),
+        Err(fault) => Err(text_fault(1, fault)),
+    }
+}
+
+/// The image that an assembler text gives, file 1 of its command.
+pub fn fetch_text<F: Files>(alloc: Global, name: &str, files: &mut F) -> Result<Image, OpenFault>
+    ensures { FetchesFile 1 text_in (λ image. image) name.now
+        (F.seen files.old) (F.seen files.new) result }
+{
+    let bytes = fetch(alloc, 1, name, 4_194_304, files)?;
+    text_of(alloc, &bytes)
+}

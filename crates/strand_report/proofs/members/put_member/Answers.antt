@@ -1,9 +1,0 @@
-use Rattle.std.proofs.Common.{[], ◌∷◌, decimal}
-use Rattle.std.proofs.lemmas.Result.{err_from_is_err_and}
-use Rattle.strand_base.proofs.Fronts.{front_before}
-use Rattle.strand_report.proofs.members.put_member.Goals as goal
-
-pub returns-in_err-put : goal.returns-in_err-put
-returns-in_err-put c =
-    let p = err_from_is_err_and c.from_residual.result c.from_residual.ensures.1 in
-    rw p.1 (front_before (32 ∷ []) (decimal c.args.member) _ _ c.in_err-put.ensures)

@@ -1,0 +1,31 @@
+-- What is run, and what some of its steps come to by the cycle rules.
+use Rattle.std.specs.Prelude.{ℕ, List}
+use Rattle.strand_image.specs.Parts.{Parts}
+use Rattle.strand_inputs.specs.Settings.{Settings}
+use Rattle.strand_inputs.specs.declared.step.Step.{Step}
+use Rattle.strand_rules.specs.declared.turn.BubbleAt.{BubbleAt}
+use Rattle.strand_rules.specs.Cycle.{State, run}
+use Rattle.strand_rules.specs.Machine.{program_of, start_of}
+use Rattle.strand_rules.specs.Run.{writes_of}
+use Rattle.strand_run.specs.Stepping.{bubbles_in}
+
+-- the settings of a machine, an image, and the steps that are to be made
+pub record Inputs : Type 0 where
+  pub config : Settings
+  pub image : Parts
+  pub steps : List Step
+
+abbrev pub inputs : Settings → Parts → List Step → Inputs
+inputs config image steps = record { config = config; image = image; steps = steps }
+
+-- the state after some steps
+abbrev pub state_after : Inputs → List Step → State
+state_after u steps = run u.config (program_of u.image) (start_of u.image) steps
+
+-- those of the steps that did nothing
+abbrev pub bubbles_after : Inputs → List Step → List BubbleAt
+bubbles_after u steps = bubbles_in u.config (program_of u.image) (start_of u.image) steps
+
+-- how many of them stored in the bank
+abbrev pub writes_after : Inputs → List Step → ℕ
+writes_after u steps = writes_of u.config (program_of u.image) (start_of u.image) steps

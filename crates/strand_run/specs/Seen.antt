@@ -1,0 +1,76 @@
+-- What the programs of a run saw, what it made durable, and the report of both.
+use Rattle.std.specs.Prelude.{◌≡◌, ℕ, ◌≤◌, Bool, List, length, OnSome}
+use Rattle.std.specs.Option.{option_map}
+use Rattle.std.specs.declared.option.Option.{Option}
+use Rattle.strand_inputs.specs.declared.mode.Mode.{Mode}
+use Rattle.strand_inputs.specs.declared.step.Step.{Step}
+use Rattle.strand_events.specs.Order.{Set}
+use Rattle.strand_modules.specs.Bank.{BankSeen}
+use Rattle.strand_path.specs.Chains.{IsChain}
+use Rattle.strand_path.specs.Chosen.{IsChosenChain}
+use Rattle.strand_report.specs.Report.{View, report_text}
+use Rattle.strand_report.specs.declared.module_fault.ModuleFault.{ModuleFault}
+use Rattle.strand_report.specs.declared.module_fault.ModulePhase.TheVariants as phase
+use Rattle.strand_rules.specs.declared.turn.BubbleAt.{BubbleAt}
+use Rattle.strand_rules.specs.declared.turn.StepFault.{StepFault}
+use Rattle.strand_rules.specs.Cycle.{durable_set}
+use Rattle.strand_rules.specs.Images.{persistent_image}
+use Rattle.strand_rules.specs.Machine.{program_of, start_of, durable_persists}
+use Rattle.strand_rules.specs.Visible.{Visible, visible}
+use Rattle.strand_run.specs.Inputs.{Inputs, state_after, bubbles_after}
+
+-- the visible run over the cores that retired an instruction in some steps
+abbrev pub visible_after : Inputs → List Step → Visible
+visible_after u steps = visible (program_of u.image) (start_of u.image).now (state_after u steps).retired
+
+-- the durable set after them, and the persistent words of its image
+abbrev pub durable_after : Inputs → List Step → Set
+durable_after u steps = durable_set (state_after u steps)
+
+abbrev pub image_after : Inputs → List Step → List ℕ
+image_after u steps = persistent_image u.image.persistent (visible_after u steps).trace (durable_after u steps)
+
+-- the fault that a module's refusal is: of the fill, of the store of a step, or of the read at the end
+abbrev pub fill_fault : ℕ → ModuleFault
+fill_fault m = record { «module» = m; phase = phase.Fill }
+
+abbrev pub store_fault : StepFault → ModuleFault
+store_fault f = record { «module» = f.«module»; phase = phase.Step f.step }
+
+abbrev pub read_fault : ℕ → ModuleFault
+read_fault m = record { «module» = m; phase = phase.Read }
+
+-- what a report shows: the steps, what the programs saw, the bubbles, the words that were read, which persists are durable, and the store that was refused
+abbrev pub shown : ℕ → Visible → List BubbleAt → List ℕ → List Bool → Option StepFault → View
+shown steps seen bubbles held durable fault = record {
+  stop = steps;
+  cores = seen.cores;
+  trace = seen.trace;
+  bubbles = bubbles;
+  visible = seen.memory;
+  held = held;
+  durable = durable;
+  fault = option_map store_fault fault;
+}
+
+-- what it shows after some steps, by the visible run
+abbrev pub view_after : Inputs → List Step → List ℕ → Option StepFault → View
+view_after u steps held fault = shown (length steps) (visible_after u steps) (bubbles_after u steps) held (durable_persists (state_after u steps)) fault
+
+-- The text is a report of this, and its path is the chosen chain; no chain of persist order is longer.
+pub record Reports (mode : Mode) (view : View) (text : List ℕ) : Type 0 where
+  pub chain : List ℕ
+  pub chosen : IsChosenChain mode view.trace chain
+  pub longest : (other : List ℕ) → IsChain mode view.trace other → length other ≤ length chain
+  pub is : text ≡ report_text view chain
+
+-- Words that a report shows as the bank's, one for each persistent word; where the bank tells its words they are the image of the durable set.
+pub record AreHeld (u : Inputs) (steps : List Step) (before : BankSeen) (held : List ℕ) : Type 0 where
+  pub count : length held ≡ length u.image.persistent
+  pub words : OnSome before.told (held ≡ image_after u steps)
+
+-- The text is the report of the visible run after some steps, with such words and the store that was refused behind them.
+pub record ReportsRun (u : Inputs) (steps : List Step) (before : BankSeen) (fault : Option StepFault) (text : List ℕ) : Type 0 where
+  pub held : List ℕ
+  pub are_held : AreHeld u steps before held
+  pub reports : Reports u.config.mode (view_after u steps held fault) text
