@@ -193,7 +193,7 @@ module _ (tags : TagsSeen) (n : Noted) (kept : AreKept tags) (may : CanAsk tags 
 
   -- the law of noting: whatever list the tags stood for, they stand for that list with the access at its end
   pub stand_noted : (ns : List Noted) → StandFor tags ns → StandFor (noted tags n) (ns ++ n ∷ [])
-  stand_noted ns stand b ask c = answer_noted b c ask ∙ ap (λ k. max k (part c b n)) (stand b (asked_before b ask) c) ∙ sym (covered_push c b ns n)
+  stand_noted ns stand b ask c lt = answer_noted b c ask ∙ ap (λ k. max k (part c b n)) (stand b (asked_before b ask) c lt) ∙ sym (covered_push c b ns n)
 
   -- the greatest strand of a core doesn't fall
   strand_raised : (core : ℕ) → slice_index tags.strands core ≤ slice_index (noted tags n).strands core

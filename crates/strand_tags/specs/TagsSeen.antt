@@ -45,9 +45,9 @@ pub record CanAsk (tags : TagsSeen) (b : Access) : Type 0 where
   pub strand : slice_index tags.strands b.core ≤ b.strand
   pub small : b.strand < 2 ^ 32
 
--- The tags stand for a list of accesses where each answer is the maximum over it.
+-- The tags stand for a list of accesses where each of the eight answers is the maximum over it.
 abbrev pub StandFor : TagsSeen → List Noted → Type 0
-StandFor tags ns = (b : Access) → CanAsk tags b → (c : ℕ) → answer tags b c ≡ covered c b ns
+StandFor tags ns = (b : Access) → CanAsk tags b → (c : ℕ) → c < 8 → answer tags b c ≡ covered c b ns
 
 -- the marks with the access of one core noted
 abbrev pub with_access : List Mark → TagsSeen → Noted → List Mark

@@ -37,7 +37,7 @@ impl Model for Tags {
 
 impl Tags {
     /// The tags of so many cores and of the words of the regions, with no access noted. Only this call
-    /// takes memory: 24 bytes for each word and core.
+    /// takes memory: 24 bytes for each word and core, and eight a core.
     pub fn new(alloc: Global, cores: u32, sizes: Sizes) -> Result<Tags, OutOfMemory>
         requires { cores ≤ 8 }
         ensures extents { IfOk result (λ t. t.extents ≡ sizes) }
