@@ -1,15 +1,37 @@
-"""What the benches share: the built program, its files and its times. `import timing`; it does nothing by itself.
+"""What the benches share: the built program, its files, its times, and the table of what was measured. It does nothing by itself.
 
-Times are seconds on a processor, of the user and of the system, so that a busy machine changes them little.
+Times are seconds on a processor, of the user and of the system, so that a busy machine changes them little. A bench is a script
+with a function `measured`, which is given a folder for its files and gives what it measured, one `Series` a line of the table;
+`bench/all` puts those of all benches into one table.
 """
+import importlib.machinery
+import importlib.util
+import math
 import os
-import struct
 import subprocess
 import sys
+import tempfile
+from collections import namedtuple
 
 TOP = os.path.dirname(os.path.dirname(os.path.abspath(__file__)))
+sys.path.append(os.path.join(TOP, "tools"))
+import calls  # noqa: E402 (after the line above, which says where it is)
+import formats  # noqa: E402
+
 PROGRAM = os.path.join(TOP, "build", "strand")
 MODES = ("strict", "epoch", "strand")
+
+# The steps of long runs, and how much longer twice as many may take. The machine doesn't look back over its trace, so time grows as
+# the steps do.
+LINEAR = 2.2
+CALL = 1.0  # seconds that a call may take, whatever it is given
+RUN_STEPS = (50_000, 100_000, 200_000)
+RUN_GROWTH = LINEAR
+GRAIN = 0.002  # shorter times are told, and their growth is not compared: the start of a process and the clock count too much
+
+# What was measured of one case: seconds at rising sizes. `growth` is how much longer twice the size may take, and `most` how many
+# seconds the largest may; None says that nothing is asked.
+Series = namedtuple("Series", "case unit points growth most")
 
 NOP = 0x00000013
 EBREAK = 0x00100073
@@ -36,12 +58,7 @@ def jump_back(words):
 
 
 def image(entries, code, volatile, persistent):
-    head = b"STRANDP1" + struct.pack("<4I", len(entries), len(code), len(volatile), len(persistent))
-    return head + struct.pack(f"<{len(entries)}I", *entries) + struct.pack(f"<{len(code)}I", *code) + words(volatile + persistent)
-
-
-def words(values):
-    return struct.pack(f"<{len(values)}Q", *values)
+    return formats.write_image(formats.Image(entries, code, volatile, persistent))
 
 
 def machine(mode):
@@ -66,13 +83,10 @@ def write(folder, name, content):
 
 def run(arguments, statuses=(0,)):
     """What one call of the program puts, and its seconds on a processor. It says nothing on standard error."""
-    child = subprocess.Popen([PROGRAM, *arguments], stdout=subprocess.PIPE, stderr=subprocess.PIPE)
-    text, said = child.stdout.read(), child.stderr.read()
-    _, status, used = os.wait4(child.pid, 0)
-    child.returncode = os.waitstatus_to_exitcode(status)
-    if child.returncode not in statuses or said:
-        sys.exit(f"{arguments[0]}: status {child.returncode}, on standard output {text[:80]!r}, on standard error {said!r}")
-    return text, used.ru_utime + used.ru_stime
+    called = calls.call([PROGRAM, *arguments], wait=600)
+    if called.status not in statuses or called.said:
+        sys.exit(f"{arguments[0]}: status {called.status}, on standard output {called.text[:80]!r}, on standard error {called.said!r}")
+    return called.text, called.seconds
 
 
 def best(arguments, runs=5, statuses=(0,)):
@@ -80,8 +94,73 @@ def best(arguments, runs=5, statuses=(0,)):
     return min((run(arguments, statuses) for _ in range(runs)), key=lambda called: called[1])
 
 
-def limited(name, seconds, limit):
-    """Prints a time, and says whether it is within its limit, if it has one."""
-    good = limit is None or seconds < limit
-    print(f"{name}: {seconds:.3f} s" + ("" if good else f", and less than {limit} s is due"), flush=True)
+def seconds_of(command):
+    """The seconds on a processor of another program's call, which has to end well."""
+    called = calls.call(command, wait=600)
+    if called.status != 0:
+        sys.exit(f"{command[0]}: status {called.status}, {called.said!r}")
+    return called.seconds
+
+
+def has(command):
+    """Whether the program has a command that takes two numbers."""
+    return calls.call([PROGRAM, command, "1", "1"]).status != 2
+
+
+def growths(points):
+    """How much longer twice the size took, from each size to the next, and whether the times are long enough to compare."""
+    for (size, seconds), (larger, longer) in zip(points, points[1:]):
+        yield (longer / max(seconds, 1e-9)) ** (1 / math.log2(larger / size)), seconds >= GRAIN
+
+
+def fault_of(series):
+    """What is more than it may be, or nothing."""
+    if series.growth is not None and any(comparable and growth > series.growth for growth, comparable in growths(series.points)):
+        return f"growth up to {series.growth} is due"
+    if series.most is not None and series.points[-1][1] >= series.most:
+        return f"less than {series.most} s is due"
+    return ""
+
+
+def skip(why):
+    """Says what isn't measured, beside the table."""
+    print(f"{why}: skipped", file=sys.stderr, flush=True)
+
+
+HEAD = ("| Case | Sizes | Seconds | Growth per doubling | Within |", "|---|---|---|---|---|")
+
+
+def line_of(series):
+    """The line of the table."""
+    sizes = ", ".join(f"{size:,}" for size, _ in series.points)
+    digits = 4 if series.points[-1][1] >= 1e-3 else 10
+    seconds = ", ".join(f"{seconds:.{digits}f}" for _, seconds in series.points)
+    growth = ", ".join(f"{growth:.2f}" if comparable else f"({growth:.2f})" for growth, comparable in growths(series.points))
+    asked = series.growth is not None or series.most is not None
+    return f"| {series.case} | {sizes} {series.unit} | {seconds} | {growth or '-'} | {fault_of(series) or ('yes' if asked else '-')} |"
+
+
+def report(measured):
+    """Prints each line as soon as it is measured, and says whether all is within what is asked."""
+    good = True
+    for series in measured:
+        print(line_of(series), flush=True)
+        good &= not fault_of(series)
     return good
+
+
+def loaded(name):
+    """A bench as a module."""
+    loader = importlib.machinery.SourceFileLoader(f"bench_{name}", os.path.join(TOP, "bench", name))
+    module = importlib.util.module_from_spec(importlib.util.spec_from_loader(loader.name, loader))
+    loader.exec_module(module)
+    return module
+
+
+def main(measured, needs_program=True):
+    """A bench by itself: the program is built where it has to be, and the bench's part of the table is printed."""
+    if needs_program:
+        build()
+    print("\n".join(HEAD))
+    with tempfile.TemporaryDirectory() as folder:
+        sys.exit(0 if report(measured(folder)) else 1)

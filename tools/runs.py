@@ -1,6 +1,6 @@
 """One run of the program `strand`, as anybody may ask for it: what it puts, and the steps of a schedule.
 
-tools/schedule and tools/timeline read a run by this. It is outside of what is proved.
+The tools read a run by this. It is outside of what is proved.
 """
 import os
 import subprocess
@@ -65,3 +65,9 @@ def cores_of(report):
     """Each core's program counter and life."""
     cores = (line.split(maxsplit=4) for line in report if line.startswith("core "))
     return [(int(words[3], 16), words[4]) for words in cores]
+
+
+def cache_of(report):
+    """The hits and misses of all caches, or None where the report has no `cache` lines."""
+    counts = [tuple(map(int, line.split()[3:6:2])) for line in report if line.startswith("cache ")]
+    return tuple(map(sum, zip(*counts))) or None

@@ -1,21 +1,21 @@
 -- The clauses of the whole call, from what each answer of its rule means: once for all rules.
 use Rattle.std.proofs.Common.{◌≡◌, ◌++◌, ◌∷◌, [], append-nil, ℕ, Bool, true, false, List, refl, sym, ap, ◌∙◌, arith, inl, inr, subst}
-use Rattle.std.specs.Prelude.{Some, None, Ok, Err, IsSomeAnd, IsSome, slice_index}
+use Rattle.std.specs.Prelude.{◌≢◌, ◌⊎◌, Some, None, Ok, Err, IsSomeAnd, IsSome, slice_index}
 use Rattle.std.specs.declared.option.Option.{Option}
 use Rattle.std.specs.declared.result.Result.{Result}
 use Rattle.strand_base.specs.Counts.{Rose}
 use Rattle.std.proofs.lemmas.Option.{same_Some}
 use Rattle.strand_base.specs.FilesSeen.{Held}
-use Rattle.strand_base.specs.SinkSeen.{Takes}
+use Rattle.strand_base.specs.SinkSeen.{SinkSeen, Takes, TakesAll}
 use Rattle.strand_modules.specs.Bank.{BankSeen}
 use Rattle.strand_report.specs.Refusals.{refusal_line, content_is_limit}
 use Rattle.strand_report.specs.declared.refusal.Refusal.{Refusal}
 use Rattle.strand_report.specs.declared.refusal.Refusal.TheVariants as refusal
-use Rattle.strand_run.specs.Fault.{Course, fill, ran}
+use Rattle.strand_run.specs.Fault.{Course, FaultCounts, fill, ran}
 use Rattle.strand_app.specs.declared.status.Status.{Status}
 use Rattle.strand_app.specs.declared.status.Status.TheVariants as status
 use Rattle.strand_app.specs.Answers.{content_status, refusal_status}
-use Rattle.strand_app.specs.Causes.{FileCause, RefusalCause, ModuleCause, SinkCause, TellsRefusal, IsRefused, AnswersRefusal}
+use Rattle.strand_app.specs.Causes.{FileCause, RefusalCause, ModuleCause, SinkCause, TellsRefusal, IsRefused, AnswersRefusal, IsPutWhole}
 use Rattle.strand_app.specs.Completeness.{IsQuiet, AreInOrder, IsAnswer, IsWhole}
 use Rattle.strand_app.specs.Ends.{Ends, PutsAll}
 use Rattle.strand_app.specs.Files.{AreFirst, Says, Opened}
@@ -24,7 +24,7 @@ use Rattle.strand_app.specs.Rule.{Rule, Text, ShownBy}
 use Rattle.strand_app.specs.Runs.{Makes, ComesTo, GivesUp, Runs, Stops}
 use Rattle.strand_app.specs.Tells.{IsTold, Tells, Refutes, Holds}
 use Rattle.strand_app.specs.World.{Outside}
-use Rattle.strand_app.proofs.Laws.{Means, Sound}
+use Rattle.strand_app.proofs.Laws.{Means, MeetsRefusal, Sound}
 
 -- a refusal is answered as a limit, an input or a stop past the steps
 abbrev IsRefusalStatus : Status → Type 0
@@ -41,6 +41,7 @@ refusal_is : (refused : Refusal) → IsRefusalStatus (refusal_status refused)
 refusal_is (refusal.File k fault) = content_is (content_is_limit fault)
 refusal_is (refusal.Stop past) = tt
 refusal_is (refusal.Bank need have) = tt
+refusal_is (refusal.Size size) = tt
 
 -- told files have one content each, so what they say is one
 joins : (held : Held) (names : List (List ℕ)) (one other : Contents) → AreFirst (Some held) names one → AreFirst (Some held) names other → (d : Contents) × (d' : Contents) × (one ++ d ≡ other ++ d')
@@ -52,20 +53,40 @@ joins held (n ∷ names) (c ∷ one) (c' ∷ other) a b =
     let same : c ≡ c' = same_Some c c' (sym a.0 ∙ b.0) in
     (rest.0, rest.1, ap (λ (x : List ℕ). x ∷ (one ++ rest.0)) same ∙ ap (λ (xs : Contents). c' ∷ xs) rest.2)
 
-says_one : {V : Type 0} (told : Option Held) (names : List (List ℕ)) (reads : Contents → Reads V) (one other : Contents) (a b : Result V Refusal) → IsSome told → Says names reads told one a → Says names reads told other b → a ≡ b
-says_one None names reads one other a b is first second = cc
-says_one (Some held) names reads one other a b is first second =
+says_told : {V : Type 0} (told : Option Held) (names : List (List ℕ)) (reads : Contents → Reads V) (one other : Contents) (a b : Result V Refusal) → IsSome told → Says names reads told one a → Says names reads told other b → a ≡ b
+says_told None names reads one other a b is first second = cc
+says_told (Some held) names reads one other a b is first second =
     let join = joins held names one other first.first second.first in
     ap (λ (r : Reads _). r.result) (sym (first.is join.0) ∙ ap reads join.2 ∙ second.is join.1)
 
+-- and so it is where no file is named
+no_contents : (told : Option Held) (names : List (List ℕ)) (contents : Contents) → names ≡ [] → AreFirst told names contents → contents ≡ []
+no_contents told names [] e first = refl
+no_contents told [] (c ∷ contents) e first = absurd first
+no_contents told (n ∷ names) (c ∷ contents) e first = cc
+
+says_one : {V : Type 0} (told : Option Held) (names : List (List ℕ)) (reads : Contents → Reads V) (one other : Contents) (a b : Result V Refusal) → IsSome told ⊎ (names ≡ []) → Says names reads told one a → Says names reads told other b → a ≡ b
+says_one told names reads one other a b (inl is) first second = says_told told names reads one other a b is first second
+says_one told names reads one other a b (inr none) first second =
+    let same : one ≡ other = no_contents told names one none first.first ∙ sym (no_contents told names other none second.first) in
+    ap (λ (r : Reads _). r.result) (sym (first.is []) ∙ ap (λ (c : Contents). reads (c ++ [])) same ∙ second.is [])
+
+-- where no module refused anything, no count of faults rose
+unrisen : (before after : BankSeen) (f : Option Course) → ShownBy before after f → (MeetsRefusal f → ⊥) → after.faults ≡ before.faults
+unrisen before after None shown none = ap (λ (b : BankSeen). b.faults) shown
+unrisen before after (Some (fill m)) shown none = absurd (none tt)
+unrisen before after (Some (ran store (Some n))) shown none = absurd (none tt)
+unrisen before after (Some (ran (Some f) None)) shown none = absurd (none tt)
+unrisen before after (Some (ran None None)) shown none = ap (λ (counts : FaultCounts). counts.1) (shown.second ∙ shown.first)
+
 -- a bank whose counts stay refused nothing
-unrefused : (before after : BankSeen) (f : Option Course) (text : Text) → ((k : ℕ) → Rose (slice_index before.faults k) (slice_index after.faults k) → ⊥) → ShownBy before after f
-    → IsSomeAnd f (λ b. TellsRefusal b text) → ⊥
-unrefused before after None text quiet shown tells = tells
-unrefused before after (Some (fill m)) text quiet shown tells = quiet m shown.rose
-unrefused before after (Some (ran store (Some n))) text quiet shown tells = quiet n (omega (arith, shown.second.rose, shown.kept_first.later n))
-unrefused before after (Some (ran (Some f) None)) text quiet shown tells = quiet f.«module» (omega (arith, shown.first.rose, shown.kept_second.later f.«module»))
-unrefused before after (Some (ran None None)) text quiet shown tells = tells
+unrefused : (heading : Text) (before after : BankSeen) (f : Option Course) (text : Text) → ((k : ℕ) → Rose (slice_index before.faults k) (slice_index after.faults k) → ⊥) → ShownBy before after f
+    → IsSomeAnd f (λ b. TellsRefusal heading b text) → ⊥
+unrefused heading before after None text quiet shown tells = tells
+unrefused heading before after (Some (fill m)) text quiet shown tells = quiet m shown.rose
+unrefused heading before after (Some (ran store (Some n))) text quiet shown tells = quiet n (omega (arith, shown.second.rose, shown.kept_first.later n))
+unrefused heading before after (Some (ran (Some f) None)) text quiet shown tells = quiet f.«module» (omega (arith, shown.first.rose, shown.kept_second.later f.«module»))
+unrefused heading before after (Some (ran None None)) text quiet shown tells = tells
 
 module _ (r : Rule) (W : Type 0) (sound : Sound r W) (before after : Outside) where
   -- a text was put whole, and how it came to it
@@ -79,7 +100,7 @@ module _ (r : Rule) (W : Type 0) (sound : Sound r W) (before after : Outside) wh
   came result memory sink (inr ends) = go ends.put
     where
       go : Ends ends.end ends.text before.sink after.sink result → Came result
-      go (inl puts) = record { text = ends.text; made = subst (λ (s : Status). ComesTo r before.world after.world s ends.text) (sym puts.status) ends.made; taken = puts.taken }
+      go (inl puts) = record { text = ends.text; made = subst (λ (s : Status). ComesTo r before.world after.world s ends.text) (sym puts.status) ends.made; taken = puts.takes.taken }
       go (inr fails) = absurd (sink fails.status)
 
   -- the command's own text, where it is no refusal of what was given and no fault of a fetch
@@ -134,7 +155,7 @@ module _ (r : Rule) (W : Type 0) (sound : Sound r W) (before after : Outside) wh
       go made c.text c.taken made.fault made.allowed made.shown (means status.ModuleFault c.text made)
     where
       go : {text : Text} (made : Makes r before.world after.world status.ModuleFault text) (put : Text) → Takes before.sink.taken after.sink.taken put → (f : Option Course) → r.Allows made.found f
-          → ShownBy before.world.bank after.world.bank f → IsSomeAnd f (λ b. TellsRefusal b put) → ModuleCause r before after
+          → ShownBy before.world.bank after.world.bank f → IsSomeAnd f (λ b. TellsRefusal r.heading b put) → ModuleCause r before after
       go made put taken None allowed shown says = absurd says
       go made put taken (Some b) allowed shown says = record { found = made.found; opened = made.opened; fault = b; allowed = allowed; shown = shown; text = put; tells = says; taken = taken }
 
@@ -224,6 +245,34 @@ module _ (r : Rule) (W : Type 0) (sound : Sound r W) (before after : Outside) wh
     pub sink_of : result ≡ status.SinkFault → SinkCause r before after result
     sink_of e = subst (SinkCause r before after) (sym e) (sink (ends_as status.SinkFault e))
 
+    pub no_sink_fault : result ≢ status.SinkFault → after.sink.faults ≡ before.sink.faults
+    no_sink_fault other = go runs
+      where
+        go : Runs r before after result → after.sink.faults ≡ before.sink.faults
+        go (inl up) = ap (λ (s : SinkSeen). s.faults) up.nothing
+        go (inr ends) = of_put ends.put
+          where
+            of_put : Ends ends.end ends.text before.sink after.sink result → after.sink.faults ≡ before.sink.faults
+            of_put (inl puts) = puts.takes.quiet
+            of_put (inr fails) = absurd (other fails.status)
+
+    pub no_file_fault : IsPutWhole result → result ≢ status.FileFault → after.world.files.faults ≡ before.world.files.faults
+    no_file_fault whole other = let c = came result whole.1 whole.0 runs in go c.text c.made
+      where
+        go : (text : Text) → ComesTo r before.world after.world result text → after.world.files.faults ≡ before.world.files.faults
+        go text (inl made) = made.opened.fetched.quiet
+        go text (inr (inl refuses)) = refuses.opened.fetched.quiet
+        go text (inr (inr misses)) = absurd (other misses.status)
+
+    pub no_module_fault : IsPutWhole result → result ≢ status.ModuleFault → after.world.bank.faults ≡ before.world.bank.faults
+    no_module_fault whole other = let c = came result whole.1 whole.0 runs in go c.text c.made
+      where
+        go : (text : Text) → ComesTo r before.world after.world result text → after.world.bank.faults ≡ before.world.bank.faults
+        go text (inl made) =
+            unrisen before.world.bank after.world.bank made.fault made.shown (λ meets. other (sound.answers made.found made.fault result text made.allowed made.puts meets))
+        go text (inr (inl refuses)) = ap (λ (b : BankSeen). b.faults) refuses.same
+        go text (inr (inr misses)) = ap (λ (b : BankSeen). b.faults) misses.same
+
   pub holds_of : (result : Status) → Runs r before after result → Holds r before after result
   holds_of result (inl up) = go up.stops
     where
@@ -254,7 +303,7 @@ module _ (r : Rule) (W : Type 0) (sound : Sound r W) (before after : Outside) wh
           let same = one refuses.refused refuses.opened in
           inl (record {
             status = puts.status ∙ refuses.status ∙ ap refusal_status same;
-            taken = subst (Takes before.sink.taken after.sink.taken) (refuses.line ∙ ap refusal_line same) puts.taken;
+            takes = subst (TakesAll before.sink after.sink) (refuses.line ∙ ap refusal_line same) puts.takes;
           })
       of_made (inr (inr misses)) puts = inr (inl (puts.status ∙ misses.status))
 
@@ -267,7 +316,7 @@ module _ (r : Rule) (W : Type 0) (sound : Sound r W) (before after : Outside) wh
     answered status.Ok text made means = inl refl
     answered status.No text made means = inr refl
     answered status.Words text made means = absurd (is_command means)
-    answered status.ModuleFault text made means = absurd (unrefused before.world.bank after.world.bank made.fault text quiet.bank made.shown means)
+    answered status.ModuleFault text made means = absurd (unrefused r.heading before.world.bank after.world.bank made.fault text quiet.bank made.shown means)
     answered _ text made means = absurd means
 
     is_told : (end : Status) → IsAnswer end → IsTold end
@@ -279,7 +328,7 @@ module _ (r : Rule) (W : Type 0) (sound : Sound r W) (before after : Outside) wh
     complete_of result (inr ends) = go ends.made ends.put
       where
         go : ComesTo r before.world after.world ends.end ends.text → Ends ends.end ends.text before.sink after.sink result → IsWhole r before after result
-        go made (inr fails) = absurd (quiet.sink fails.rose)
+        go made (inr fails) = absurd (quiet.sink (omega (arith, fails.takes.front.quiet, fails.takes.rose)))
         go (inr (inl refuses)) (inl puts) = absurd (good refuses.opened.contents refuses.refused refuses.opened.says)
         go (inr (inr misses)) (inl puts) = absurd (quiet.files misses.missed.fails.rose)
         go (inl made) (inl puts) =

@@ -1,11 +1,12 @@
 -- What comes of a command, from what came of its files and of its run: for the calls of the commands.
-use Rattle.std.proofs.Common.{ℕ, List, refl, inl, inr}
+use Rattle.std.proofs.Common.{ℕ, List, [], refl, inl, inr}
 use Rattle.std.specs.Prelude.{Some, None, Ok, Err, IfOk}
 use Rattle.std.specs.declared.result.Result.{Result}
 use Rattle.strand_base.specs.FilesSeen.{FilesSeen}
 use Rattle.strand_base.specs.declared.out_of_memory.OutOfMemory.{OutOfMemory as NoMemory}
 use Rattle.strand_modules.specs.Bank.{BankSeen}
 use Rattle.strand_modules.proofs.Fronts.{keeps_same}
+use Rattle.strand_run.specs.Fault.{Course}
 use Rattle.strand_run.specs.Inputs.{Inputs}
 use Rattle.strand_app.specs.declared.fetching.OpenFault.{OpenFault}
 use Rattle.strand_app.specs.declared.fetching.OpenFault.TheVariants.{Fetch, Refused, OutOfMemory}
@@ -13,11 +14,11 @@ use Rattle.strand_app.specs.declared.status.Made.{Made}
 use Rattle.strand_app.specs.declared.status.Status.{Status}
 use Rattle.strand_app.specs.Answers.{AnswersFault, PutsOk}
 use Rattle.strand_app.specs.Files.{Opened, Missed, Unread}
-use Rattle.strand_app.specs.Machine.{machine_rule}
+use Rattle.strand_app.specs.Machine.{PutsRun, machine_rule, stepping_rule}
 use Rattle.strand_app.specs.Opening.{OpensTo}
 use Rattle.strand_app.specs.Reads.{Contents, Reads}
 use Rattle.strand_app.specs.Rule.{Rule, Text}
-use Rattle.strand_app.specs.Running.{MakesOnBank}
+use Rattle.strand_app.specs.Running.{MakesByCourse, MakesOnBank}
 use Rattle.strand_app.specs.Runs.{Comes}
 use Rattle.strand_app.specs.Still.{still_rule}
 use Rattle.strand_app.specs.World.{world}
@@ -48,9 +49,14 @@ still_comes Found names opens text_of before after bank found (Ok made) opened p
 still_comes Found names opens text_of before after bank found (Err e) opened puts = inl (record { found = found; opened = opened; kept = keeps_same bank; leaves = refl })
 
 -- What the files say was run on the bank.
+pub stepping_comes : (Found : Type 0) (inputs_of : Found → Inputs) (heading : Text) (Puts : Found → BankSeen → Course → Status → Text → Type 0) (Refutes : Found → Text → Type 0) (names : List (List ℕ)) (opens : Contents → Reads Found)
+    (before after : FilesSeen) (bank bank' : BankSeen) (found : Found) (result : Result Made NoMemory) → Opened names opens before after (Ok found) → MakesByCourse (inputs_of found) bank bank' (Puts found bank) result
+    → Comes (stepping_rule Found inputs_of heading Puts Refutes names opens bank) (world before bank) (world after bank') result
+stepping_comes Found inputs_of heading Puts Refutes names opens before after bank bank' found (Ok made) opened puts =
+    inl (record { found = found; opened = opened; fault = Some puts.fault; allowed = puts.allowed; shown = puts.shown; kept = puts.kept; leaves = puts.leaves; puts = puts.puts })
+stepping_comes Found inputs_of heading Puts Refutes names opens before after bank bank' found (Err e) opened may = inl (record { found = found; opened = opened; kept = may.0; leaves = may.1 })
+
 pub machine_comes : (Found : Type 0) (inputs_of : Found → Inputs) (Whole : Found → BankSeen → Status → Text → Type 0) (Refutes : Found → Text → Type 0) (names : List (List ℕ)) (opens : Contents → Reads Found)
     (before after : FilesSeen) (bank bank' : BankSeen) (found : Found) (result : Result Made NoMemory) → Opened names opens before after (Ok found) → MakesOnBank (inputs_of found) bank bank' (Whole found bank) result
     → Comes (machine_rule Found inputs_of Whole Refutes names opens bank) (world before bank) (world after bank') result
-machine_comes Found inputs_of Whole Refutes names opens before after bank bank' found (Ok made) opened puts =
-    inl (record { found = found; opened = opened; fault = Some puts.fault; allowed = puts.allowed; shown = puts.shown; kept = puts.kept; leaves = puts.leaves; puts = puts.puts })
-machine_comes Found inputs_of Whole Refutes names opens before after bank bank' found (Err e) opened may = inl (record { found = found; opened = opened; kept = may.0; leaves = may.1 })
+machine_comes Found inputs_of Whole = stepping_comes Found inputs_of [] (λ found bank. PutsRun (inputs_of found) bank (Whole found bank))

@@ -4,6 +4,8 @@ pub mod RunReads
 pub mod JudgeReads
 pub mod Ran
 pub mod Comes
+pub mod Generated
+pub mod Summary
 pub mod Laws
 pub mod RuleLaws
 pub mod Clauses

@@ -30,7 +30,7 @@ are_more told (n ∷ names) (c ∷ contents) name content first at is = (first.0
 
 -- no file was fetched
 pub first_none : (names : List (List ℕ)) (before : FilesSeen) → FetchesFirst names before before []
-first_none names before = record { first = tt; told = refl; later = omega arith; count = refl; last_failed = refl; untouched = λ e. refl }
+first_none names before = record { first = tt; told = refl; quiet = refl; count = refl; last_failed = refl; untouched = λ e. refl }
 
 module _ (names : List (List ℕ)) (before between after : FilesSeen) (contents : Contents) (name : List ℕ) (first : FetchesFirst names before between contents) (at : slice_get names (length contents) ≡ Some name)
     (one : FetchesOne between after) where
@@ -45,7 +45,7 @@ module _ (names : List (List ℕ)) (before between after : FilesSeen) (contents 
   first_more content gives = record {
     first = are_more before.told names contents name content first.first at (subst (λ (t : Option Held). IsFile t name content) first.told gives.file);
     told = one.told ∙ first.told;
-    later = omega (arith, first.later, one.later);
+    quiet = gives.quiet ∙ first.quiet;
     count = count_more ∙ ap (λ (n : ℕ). fetched n before.fetches) (sym (long content));
     last_failed = gives.last_failed ∙ first.last_failed;
     untouched = λ e. let none : suc (length contents) ≡ 0 = sym (long content) ∙ ap length e in absurd (omega (arith, none));
@@ -68,15 +68,15 @@ module _ (names : List (List ℕ)) (before between after : FilesSeen) (contents 
       fails = record {
         first = first.first;
         told = one.told ∙ first.told;
-        later = omega (arith, first.later, one.later);
-        rose = omega (arith, first.later, fetches.1.1.rose);
+        later = omega (arith, first.quiet, one.later);
+        rose = omega (arith, first.quiet, fetches.1.1.rose);
         count = count_more;
         name = subst (λ (t : Option Held). IfSome t (λ _. after.last_failed ≡ slice_get names (length contents))) first.told
             (subst (λ (found : Option (List ℕ)). IfSome between.told (λ _. after.last_failed ≡ found)) (sym at) fetches.1.1.name_is);
       };
     }
     fails_next OutOfMemory fetches =
-        record { contents = contents; wanted = wanted; few = record { first = first.first; told = one.told ∙ first.told; later = omega (arith, first.later, one.later); few = inr count_more } }
+        record { contents = contents; wanted = wanted; few = record { first = first.first; told = one.told ∙ first.told; later = omega (arith, first.quiet, one.later); few = inr count_more } }
 
 -- the one file of a command
 module _ {V W : Type 0} (rule : List ℕ → Result V ContentFault) (view : W → V) (name : List ℕ) (before after : FilesSeen) where
@@ -109,7 +109,7 @@ module _ (names more : List (List ℕ)) (before after : FilesSeen) (contents : C
 
   pub first_among : FetchesFirst names before after contents → FetchesFirst (names ++ more) before after contents
   first_among first =
-      record { first = among before.told names contents first.first; told = first.told; later = first.later; count = first.count; last_failed = first.last_failed; untouched = first.untouched }
+      record { first = among before.told names contents first.first; told = first.told; quiet = first.quiet; count = first.count; last_failed = first.last_failed; untouched = first.untouched }
 
   fails_among : length contents < length names → FetchFails names before after contents → FetchFails (names ++ more) before after contents
   fails_among lt fails = record {

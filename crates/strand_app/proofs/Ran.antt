@@ -53,7 +53,7 @@ may_leave u count (ran store (Some n)) before after allowed leaves = may_after u
 
 -- the report of a run that was told is the visible run's
 pub reports_run : (u : Inputs) (before : BankSeen) (r : Run) (text : Text) → Tells u before r → Reports u.config.mode (view_of r) text → ReportsRun u (steps_made r.fault u.steps) before r.fault text
-reports_run u before r text tells reports = record { held = r.held.items; are_held = tells.held; reports = subst (λ (v : View). Reports u.config.mode v text) tells.view reports }
+reports_run u before r text tells reports = record { held = r.held; are_held = tells.held; reports = subst (λ (v : View). Reports u.config.mode v text) tells.view reports }
 
 -- the trace of a run that met no refusal is the visible run's
 pub trace_is : (u : Inputs) (before : BankSeen) (r : Run) → r.fault ≡ None → Tells u before r → (view_of r).trace ≡ (visible_after u u.steps).trace

@@ -3,7 +3,7 @@ use Rattle.std.specs.Prelude.{◌≡◌, ℕ, Bool, true, false, List}
 use Rattle.strand_report.specs.FaultLines.{file_fault}
 use Rattle.strand_report.specs.Refusals.{content_is_limit, refusal_line}
 use Rattle.strand_report.specs.declared.refusal.Refusal.{Refusal}
-use Rattle.strand_report.specs.declared.refusal.Refusal.TheVariants.{File, Stop, Bank}
+use Rattle.strand_report.specs.declared.refusal.Refusal.TheVariants.{File, Stop, Bank, Size}
 use Rattle.strand_app.specs.declared.fetching.OpenFault.{OpenFault}
 use Rattle.strand_app.specs.declared.fetching.OpenFault.TheVariants.{Fetch, Refused, OutOfMemory}
 use Rattle.strand_app.specs.declared.status.Made.{Made}
@@ -18,6 +18,7 @@ abbrev pub refusal_status : Refusal → Status
 refusal_status (File k fault) = content_status (content_is_limit fault)
 refusal_status (Stop past) = status.StopPast
 refusal_status (Bank need have) = status.Limit
+refusal_status (Size size) = status.Limit
 
 -- The status and the text are those of files that didn't come or are refused; no text is made for want of memory.
 abbrev pub AnswersFault : OpenFault → Made → Type 0

@@ -1,5 +1,5 @@
 -- The cause of each fault that a call answers.
-use Rattle.std.specs.Prelude.{◌≡◌, ◌⊎◌, ℕ, ◌++◌, Ok, Err, Some, None, IsSome}
+use Rattle.std.specs.Prelude.{◌≡◌, ◌≢◌, ◌⊎◌, ℕ, [], ◌++◌, Ok, Err, Some, None, IsSome}
 use Rattle.std.specs.declared.option.Option.{Option}
 use Rattle.strand_base.specs.SinkSeen.{Takes}
 use Rattle.strand_report.specs.FaultLines.{file_fault, module_fault_line}
@@ -23,12 +23,12 @@ use Rattle.strand_app.specs.World.{Outside}
 abbrev pub EndsWith : ModuleFault → Text → Type 0
 EndsWith fault text = (front : Text) × (text ≡ front ++ module_fault_line fault)
 
--- The refusal that decides: where a read was refused too, it is that one.
-abbrev pub TellsRefusal : Course → Text → Type 0
-TellsRefusal (fill m) text = text ≡ module_fault_line (fill_fault m)
-TellsRefusal (ran store (Some n)) text = text ≡ module_fault_line (read_fault n)
-TellsRefusal (ran (Some f) None) text = EndsWith (store_fault f) text
-TellsRefusal (ran None None) text = ⊥
+-- The refusal that decides: where a read was refused too, it is that one. Before the line of a fill or a read this heading stands alone.
+abbrev pub TellsRefusal : (heading : Text) → Course → Text → Type 0
+TellsRefusal heading (fill m) text = text ≡ heading ++ module_fault_line (fill_fault m)
+TellsRefusal heading (ran store (Some n)) text = text ≡ heading ++ module_fault_line (read_fault n)
+TellsRefusal heading (ran (Some f) None) text = EndsWith (store_fault f) text
+TellsRefusal heading (ran None None) text = ⊥
 
 module _ (r : Rule) (before after : Outside) where
   -- The fetch of a file failed that was wanted, and the line names that file.
@@ -52,7 +52,7 @@ module _ (r : Rule) (before after : Outside) where
     pub allowed : r.Allows found (Some fault)
     pub shown : ShownByBank before.world.bank after.world.bank fault
     pub text : Text
-    pub tells : TellsRefusal fault text
+    pub tells : TellsRefusal r.heading fault text
     pub taken : Takes before.sink.taken after.sink.taken text
 
   -- The sink's count of faults rose, and a proper front of the command's text was taken.
@@ -62,9 +62,10 @@ module _ (r : Rule) (before after : Outside) where
     pub made : ComesTo r before.world after.world end text
     pub fails : SinkFails text before.sink after.sink result
 
--- What the told files say is refused so.
+-- What the words and the told files say is refused so; where the command names no file, none needs to be told.
 abbrev pub IsRefused : Rule → Outside → Refusal → Type 0
-IsRefused r before refused = IsSome before.world.files.told × ((contents : Contents) × Says r.names r.opens before.world.files.told contents (Err refused))
+IsRefused r before refused =
+    (IsSome before.world.files.told ⊎ (r.names ≡ [])) × ((contents : Contents) × Says r.names r.opens before.world.files.told contents (Err refused))
 
 -- And so it is answered, unless a fetch or the sink failed or memory ran out.
 abbrev pub AnswersRefusal : Outside → Outside → Refusal → Status → Type 0
@@ -75,3 +76,7 @@ AnswersRefusal before after refused result =
 -- The words are a command, and nothing was put.
 abbrev pub MemoryCause : Option Command → Outside → Outside → Type 0
 MemoryCause command before after = IsSome command × (after.sink ≡ before.sink)
+
+-- The text was put whole: neither did the sink fail nor did memory run out.
+abbrev pub IsPutWhole : Status → Type 0
+IsPutWhole result = (result ≢ status.SinkFault) × (result ≢ status.Memory)

@@ -6,7 +6,7 @@ use Rattle.strand_modules.specs.Bank.{BankSeen}
 use Rattle.strand_app.specs.declared.command.Command.{Command as CodeCommand}
 use Rattle.strand_app.specs.declared.command.Command.TheVariants as code
 use Rattle.strand_app.specs.declared.command.RunWords.{RunWords}
-use Rattle.strand_app.specs.Command.{Command, command_of, asm, list, run, judge, trace}
+use Rattle.strand_app.specs.Command.{Command, command_of, asm, list, run, judge, trace, gen, gen_image, gen_schedule}
 use Rattle.strand_app.specs.Commands.Judge.{judge_rule}
 use Rattle.strand_app.specs.Commands.Run.{run_rule}
 use Rattle.strand_app.specs.Commands.Trace.{trace_rule}
@@ -19,6 +19,9 @@ view (code.List image) = list image.now
 view (code.Run words) = run words.machine.now words.image.now words.schedule.now words.stop
 view (code.Judge words crash) = judge words.machine.now words.image.now words.schedule.now words.stop crash.now
 view (code.Trace words) = trace words.machine.now words.image.now words.schedule.now words.stop
+view (code.Gen seed size) = gen seed size
+view (code.GenImage seed size) = gen_image seed size
+view (code.GenSchedule seed size) = gen_schedule seed size
 
 -- the rules of those that step a machine
 abbrev pub run_rule_in : RunWords → BankSeen → Rule

@@ -3,3 +3,6 @@ pub mod List
 pub mod Run
 pub mod Judge
 pub mod Trace
+pub mod Gen
+pub mod GenImage
+pub mod GenSchedule

@@ -17,7 +17,7 @@ pub record IsQuiet (before after : Outside) : Type 0 where
   pub bank : (k : ℕ) → Rose (slice_index before.world.bank.faults k) (slice_index after.world.bank.faults k) → ⊥
   pub sink : Rose before.sink.faults after.sink.faults → ⊥
 
--- Nothing that the files may say is refused.
+-- Nothing that the words and the files may say is refused.
 abbrev pub AreInOrder : Rule → Outside → Type 0
 AreInOrder r before = (contents : Contents) (refused : Refusal) → Says r.names r.opens before.world.files.told contents (Err refused) → ⊥
 

@@ -23,7 +23,7 @@ module _ (names : List (List ℕ)) (before after : FilesSeen) where
   pub record FetchesFirst (contents : Contents) : Type 0 where
     pub first : AreFirst before.told names contents
     pub told : after.told ≡ before.told
-    pub later : before.faults ≤ after.faults
+    pub quiet : after.faults ≡ before.faults
     pub count : after.fetches ≡ fetched (length contents) before.fetches
     pub last_failed : after.last_failed ≡ before.last_failed
     pub untouched : contents ≡ [] → after ≡ before

@@ -14,6 +14,7 @@ pub mod Still
 pub mod NoCommand
 pub mod Machine
 pub mod RunFiles
+pub mod Generated
 pub mod Commands
 pub mod Command
 pub mod RuleOf
@@ -22,4 +23,5 @@ pub mod Opening
 pub mod Settling
 pub mod Running
 pub mod Judging
+pub mod Summing
 pub mod CommandView

@@ -1,5 +1,5 @@
--- The rule of a command that steps a machine.
-use Rattle.std.specs.Prelude.{◌≡◌, ℕ, ◌-◌, List, length, take, Some, None, IsSomeAnd}
+-- The rules of commands that step a machine.
+use Rattle.std.specs.Prelude.{◌≡◌, ℕ, ◌-◌, List, [], length, take, Some, None, IsSomeAnd}
 use Rattle.strand_modules.specs.Bank.{BankSeen}
 use Rattle.strand_report.specs.FaultLines.{module_fault_line}
 use Rattle.strand_run.specs.Allowed.{LeavesAllowed, MayLeaveAllowed}
@@ -19,17 +19,22 @@ PutsRun u before Whole (ran store (Some n)) end text = (end ≡ status.ModuleFau
 PutsRun u before Whole (ran (Some f) None) end text = (end ≡ status.ModuleFault) × ReportsRun u (take (f.step - 1) u.steps) before (Some f) text
 PutsRun u before Whole (ran None None) end text = Whole end text
 
--- What is found in its files says what is run. With a run that met no refusal it puts this, on a bank as it stands at entry; and this is what a no says.
-abbrev pub machine_rule : (Found : Type 0) → (Found → Inputs) → (Found → BankSeen → Status → Text → Type 0) → (Found → Text → Type 0) → List (List ℕ) → (Contents → Reads Found) → BankSeen → Rule
-machine_rule Found inputs_of Whole Refutes names opens before = record {
+-- What is found in its files says what is run. By the course of the run it puts this, on a bank as it stands at entry, with this heading before a refusal; and this is what a no says.
+abbrev pub stepping_rule : (Found : Type 0) → (Found → Inputs) → (heading : Text) → (Found → BankSeen → Course → Status → Text → Type 0) → (Found → Text → Type 0) → List (List ℕ) → (Contents → Reads Found) → BankSeen → Rule
+stepping_rule Found inputs_of heading Puts Refutes names opens before = record {
   names = names;
   Found = Found;
   opens = opens;
   Allows = λ found fault. IsSomeAnd fault (Allows (length before.faults) (inputs_of found));
-  Puts = λ found fault end text. IsSomeAnd fault (λ b. PutsRun (inputs_of found) before (Whole found before) b end text);
+  Puts = λ found fault end text. IsSomeAnd fault (λ b. Puts found before b end text);
+  heading = heading;
   Leaves = λ found fault after. IsSomeAnd fault (λ b. Leaves (inputs_of found) b before after);
   MayLeave = λ found after. MayLeave (inputs_of found) before after;
   Holds = λ found fault after. IsSomeAnd fault (λ b. LeavesAllowed (inputs_of found) b before after);
   MayHold = λ found after. MayLeaveAllowed (inputs_of found) before after;
   Refutes = Refutes;
 }
+
+-- With a run that met no refusal it puts this, and otherwise what `PutsRun` says.
+abbrev pub machine_rule : (Found : Type 0) → (Found → Inputs) → (Found → BankSeen → Status → Text → Type 0) → (Found → Text → Type 0) → List (List ℕ) → (Contents → Reads Found) → BankSeen → Rule
+machine_rule Found inputs_of Whole = stepping_rule Found inputs_of [] (λ found before. PutsRun (inputs_of found) before (Whole found before))

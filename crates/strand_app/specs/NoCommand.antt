@@ -14,6 +14,7 @@ no_command before = record {
   opens = λ contents. given tt;
   Allows = λ found fault. fault ≡ None;
   Puts = λ found fault end text. (end ≡ status.Words) × (text ≡ words_fault);
+  heading = [];
   Leaves = λ found fault after. after ≡ before;
   MayLeave = λ found after. ⊥;
   Holds = λ found fault after. after ≡ before;

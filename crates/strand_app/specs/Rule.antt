@@ -20,6 +20,8 @@ pub record Rule : Type 1 where
   pub Allows : Found → Option Course → Type 0
   -- By this course the call ends so and puts this, if the sink doesn't fail.
   pub Puts : Found → Option Course → Status → Text → Type 0
+  -- what stands before the line of a module that refuses the fill or the read
+  pub heading : Text
   -- By this course it leaves this bank,
   pub Leaves : Found → Option Course → BankSeen → Type 0
   -- and where memory ran out it may leave this one.

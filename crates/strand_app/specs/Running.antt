@@ -33,16 +33,23 @@ pub record RunsOnBank (u : Inputs) (before after : BankSeen) (result : Ran) : Ty
   pub leaves : Leaves u fault before after
   pub is : IsRun u before fault result
 
--- An answer was made of it, where this is what a run tells that met no refusal.
-pub record PutsOnBank (u : Inputs) (before after : BankSeen) (WholePuts : Status → Text → Type 0) (made : Made) : Type 0 where
+-- An answer was made of it: this is what it puts by its course.
+pub record PutsByCourse (u : Inputs) (before after : BankSeen) (Puts : Course → Status → Text → Type 0) (made : Made) : Type 0 where
   pub fault : Course
   pub allowed : Allows (length before.faults) u fault
   pub shown : ShownByBank before after fault
   pub kept : Keeps before after
   pub leaves : Leaves u fault before after
-  pub puts : PutsRun u before WholePuts fault made.status made.text.items
+  pub puts : Puts fault made.status made.text.items
 
 -- what comes of a command's run
+abbrev pub MakesByCourse : Inputs → BankSeen → BankSeen → (Course → Status → Text → Type 0) → Result Made OutOfMemory → Type 0
+MakesByCourse u before after Puts (Ok made) = PutsByCourse u before after Puts made
+MakesByCourse u before after Puts (Err memory) = Keeps before after × MayLeave u before after
+
+-- where this is what a run tells that met no refusal
+abbrev pub PutsOnBank : Inputs → BankSeen → BankSeen → (Status → Text → Type 0) → Made → Type 0
+PutsOnBank u before after WholePuts = PutsByCourse u before after (PutsRun u before WholePuts)
+
 abbrev pub MakesOnBank : Inputs → BankSeen → BankSeen → (Status → Text → Type 0) → Result Made OutOfMemory → Type 0
-MakesOnBank u before after WholePuts (Ok made) = PutsOnBank u before after WholePuts made
-MakesOnBank u before after WholePuts (Err memory) = Keeps before after × MayLeave u before after
+MakesOnBank u before after WholePuts = MakesByCourse u before after (PutsRun u before WholePuts)

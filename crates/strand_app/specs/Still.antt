@@ -1,5 +1,5 @@
 -- The rule of a command that runs nothing on the bank and leaves it as it was.
-use Rattle.std.specs.Prelude.{◌≡◌, ℕ, List, None}
+use Rattle.std.specs.Prelude.{◌≡◌, ℕ, List, [], None}
 use Rattle.strand_modules.specs.Bank.{BankSeen}
 use Rattle.strand_app.specs.declared.status.Status.TheVariants as status
 use Rattle.strand_app.specs.Reads.{Contents, Reads}
@@ -13,6 +13,7 @@ still_rule Found names opens text_of before = record {
   opens = opens;
   Allows = λ found fault. fault ≡ None;
   Puts = λ found fault end text. (end ≡ status.Ok) × (text ≡ text_of found);
+  heading = [];
   Leaves = λ found fault after. after ≡ before;
   MayLeave = λ found after. after ≡ before;
   Holds = λ found fault after. after ≡ before;

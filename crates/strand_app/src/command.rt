@@ -1,8 +1,10 @@
 ghost use Rattle.std.specs.Prelude.{◌≡◌};
 ghost use Rattle.std.specs.Option.{option_map};
-ghost use Rattle.strand_app.specs.Command.{one_file, three_files, four_files};
+ghost use Rattle.strand_app.specs.Command.{one_file, two_numbers, three_files, four_files};
 ghost use Rattle.strand_app.specs.CommandView.{asked, view};
+ghost use Rattle.strand_inputs.specs.Machine.{number_of};
 
+use strand_base::read_decimal;
 use strand_inputs::{Stop, read_stop};
 
 /// What the program is to do; files are given by their names.
@@ -18,6 +20,12 @@ pub enum Command<'a> {
     Judge { words: RunWords<'a>, crash: &'a str },
     /// `trace MACHINE IMAGE SCHEDULE STOP`: the events of a run, and the edges of their graph.
     Trace { words: RunWords<'a> },
+    /// `gen SEED SIZE`: the summary of a generated run.
+    Gen { seed: u64, size: u64 },
+    /// `gen-image SEED SIZE`: its image.
+    GenImage { seed: u64, size: u64 },
+    /// `gen-schedule SEED SIZE`: its schedule.
+    GenSchedule { seed: u64, size: u64 },
 }
 
 /// The files of a run, and where it is cut off.
@@ -40,6 +48,27 @@ fn one_file<'a>(word: &str, file: &'a str) -> Option<Command<'a>>
     } else {
         None
     }
+}
+
+// A command of a seed and a size.
+fn two_numbers<'a>(word: &str, seed: u64, size: u64) -> Option<Command<'a>>
+    ensures { option_map view result ≡ two_numbers word.now seed size }
+{
+    if word == "gen" {
+        Some(Command::Gen { seed, size })
+    } else if word == "gen-image" {
+        Some(Command::GenImage { seed, size })
+    } else if word == "gen-schedule" {
+        Some(Command::GenSchedule { seed, size })
+    } else {
+        None
+    }
+}
+
+fn number(word: &str) -> Option<u64>
+    ensures { result ≡ number_of word.now }
+{
+    read_decimal(word.as_bytes()).ok()
 }
 
 // A command of a machine file, an image and a schedule.
@@ -101,6 +130,11 @@ pub fn read_command(words: &[String]) -> Option<Command<'_>>
 {
     match words {
         [word, file] => one_file(word.as_str(), file.as_str()),
+        [word, seed, size] => {
+            let seed = number(seed.as_str())?;
+            let size = number(size.as_str())?;
+            two_numbers(word.as_str(), seed, size)
+        }
         [word, machine, image, schedule, stop] => {
             let stop = read_stop(stop.as_str())?;
             three_files(

@@ -2,6 +2,7 @@ ghost use Rattle.std.specs.Prelude.{IfOk, OnErr};
 ghost use Rattle.strand_app.specs.Opening.{IsReady, inputs_of};
 ghost use Rattle.strand_app.specs.Running.{Answers, RunsOnBank};
 ghost use Rattle.strand_modules.specs.Bank.{Keeps};
+ghost use Rattle.strand_modules.specs.Seen.{bank_seen};
 ghost use Rattle.strand_report.specs.FaultLines.{module_fault_line};
 ghost use Rattle.strand_run.specs.Outcome.{MayLeave, RunsTo};
 
@@ -37,12 +38,12 @@ fn refused(alloc: Global, module: u32, phase: ModulePhase) -> Result<Ran, OutOfM
     })
 }
 
-// Fills the bank, makes the steps and reads the bank.
-fn run_setup(alloc: Global, setup: &Setup, bank: &mut ModuleBank) -> Result<RunEnd, OutOfMemory>
-    requires { IsReady bank.old.size setup.now }
-    ensures ran { IfOk result (RunsTo (inputs_of setup.now) bank.old bank.new) }
-    ensures memory { OnErr result (Keeps bank.old bank.new
-        × MayLeave (inputs_of setup.now) bank.old bank.new) }
+/// Fills the bank, makes the steps and reads the bank.
+pub fn run_setup(alloc: Global, setup: &Setup, bank: &mut ModuleBank) -> Result<RunEnd, OutOfMemory>
+    requires { IsReady (bank_seen holds bank.old).size setup.now }
+    ensures ran { IfOk result (RunsTo (inputs_of setup.now) (bank_seen holds bank.old) (bank_seen holds bank.new)) }
+    ensures memory { OnErr result (Keeps (bank_seen holds bank.old) (bank_seen holds bank.new)
+        × MayLeave (inputs_of setup.now) (bank_seen holds bank.old) (bank_seen holds bank.new)) }
 {
     let files = &setup.files;
     let steps = &files.schedule.steps()[..setup.stop as usize];
@@ -52,10 +53,10 @@ fn run_setup(alloc: Global, setup: &Setup, bank: &mut ModuleBank) -> Result<RunE
 /// Runs this on the bank. Where a module refuses, the answer is made: of the store of a step the report of the steps
 /// before it, of the fill or the read its line.
 pub fn run_on_bank(alloc: Global, setup: &Setup, bank: &mut ModuleBank) -> Result<Ran, OutOfMemory>
-    requires { IsReady bank.old.size setup.now }
-    ensures ran { IfOk result (RunsOnBank (inputs_of setup.now) bank.old bank.new) }
-    ensures memory { OnErr result (Keeps bank.old bank.new
-        × MayLeave (inputs_of setup.now) bank.old bank.new) }
+    requires { IsReady (bank_seen holds bank.old).size setup.now }
+    ensures ran { IfOk result (RunsOnBank (inputs_of setup.now) (bank_seen holds bank.old) (bank_seen holds bank.new)) }
+    ensures memory { OnErr result (Keeps (bank_seen holds bank.old) (bank_seen holds bank.new)
+        × MayLeave (inputs_of setup.now) (bank_seen holds bank.old) (bank_seen holds bank.new)) }
 {
     match run_setup(alloc, setup, bank)? {
         RunEnd::FillRefused { module } => refused(alloc, module, ModulePhase::Fill),

@@ -1,7 +1,7 @@
-ghost use Rattle.std.specs.Prelude.{◌≡◌, IfOk, OnErr};
+ghost use Rattle.std.specs.Prelude.{◌≡◌, ◌≢◌, IfOk, OnErr};
 ghost use Rattle.std.specs.Prelude.{None, Some};
 ghost use Rattle.strand_app.specs.Causes.{FileCause, ModuleCause, RefusalCause, SinkCause};
-ghost use Rattle.strand_app.specs.Causes.{AnswersRefusal, IsRefused, MemoryCause};
+ghost use Rattle.strand_app.specs.Causes.{AnswersRefusal, IsPutWhole, IsRefused, MemoryCause};
 ghost use Rattle.strand_app.specs.CommandView.{asked, asked_rule, view};
 ghost use Rattle.strand_app.specs.Completeness.{AreInOrder, IsQuiet, IsWhole};
 ghost use Rattle.strand_app.specs.Ends.{Ends};
@@ -9,11 +9,15 @@ ghost use Rattle.strand_app.specs.RuleOf.{rule_of};
 ghost use Rattle.strand_app.specs.Runs.{Comes, Runs};
 ghost use Rattle.strand_app.specs.Tells.{Holds, IsTold, Refutes, Tells};
 ghost use Rattle.strand_app.specs.World.{outside, world};
+ghost use Rattle.strand_modules.specs.Seen.{bank_seen};
 ghost use Rattle.strand_report.specs.FaultLines.{words_fault};
 ghost use Rattle.strand_report.specs.declared.refusal.Refusal.{Refusal};
 
 use crate::command::{Command, read_command};
 use crate::commands::asm::asm_text;
+use crate::commands::gen_image::image_generated;
+use crate::commands::gen_run::judge_generated;
+use crate::commands::gen_schedule::schedule_generated;
 use crate::commands::judge::judge_crash;
 use crate::commands::list::list_image;
 use crate::commands::run::report_run;
@@ -55,30 +59,30 @@ pub fn strand_main<F: Files, K: Sink>(
     bank: &mut ModuleBank,
 ) -> Status
     // The whole call: what is put, how it ends, and what the bank holds.
-    ensures runs { Runs (asked_rule words.now bank.old)
-        (outside (F.seen files.old) bank.old (K.seen out.old))
-        (outside (F.seen files.new) bank.new (K.seen out.new)) result }
+    ensures runs { Runs (asked_rule words.now (bank_seen holds bank.old))
+        (outside (F.seen files.old) (bank_seen holds bank.old) (K.seen out.old))
+        (outside (F.seen files.new) (bank_seen holds bank.new) (K.seen out.new)) result }
 
     // At Ok, No and ModuleFault the text is what the rule puts: of the visible run, its graph, its judge.
-    ensures visible { IsTold result → Tells (asked_rule words.now bank.old)
-        (outside (F.seen files.old) bank.old (K.seen out.old))
-        (outside (F.seen files.new) bank.new (K.seen out.new)) result }
+    ensures visible { IsTold result → Tells (asked_rule words.now (bank_seen holds bank.old))
+        (outside (F.seen files.old) (bank_seen holds bank.old) (K.seen out.old))
+        (outside (F.seen files.new) (bank_seen holds bank.new) (K.seen out.new)) result }
 
     // However the call ends, what its steps left in the bank is an image that persist order allows;
     // a refused fill leaves a part of the first words, and a call that ran nothing what was there.
-    ensures crash { Holds (asked_rule words.now bank.old)
-        (outside (F.seen files.old) bank.old (K.seen out.old))
-        (outside (F.seen files.new) bank.new (K.seen out.new)) result }
+    ensures crash { Holds (asked_rule words.now (bank_seen holds bank.old))
+        (outside (F.seen files.old) (bank_seen holds bank.old) (K.seen out.old))
+        (outside (F.seen files.new) (bank_seen holds bank.new) (K.seen out.new)) result }
 
     // Where nothing is refused and no count rises, memory ran out, or the whole text was put.
     ensures completeness { (asked words.now ≡ None → ⊥)
-        → IsQuiet (outside (F.seen files.old) bank.old (K.seen out.old))
-        (outside (F.seen files.new) bank.new (K.seen out.new))
-        → AreInOrder (asked_rule words.now bank.old)
-        (outside (F.seen files.old) bank.old (K.seen out.old))
-        → IsWhole (asked_rule words.now bank.old)
-        (outside (F.seen files.old) bank.old (K.seen out.old))
-        (outside (F.seen files.new) bank.new (K.seen out.new)) result }
+        → IsQuiet (outside (F.seen files.old) (bank_seen holds bank.old) (K.seen out.old))
+        (outside (F.seen files.new) (bank_seen holds bank.new) (K.seen out.new))
+        → AreInOrder (asked_rule words.now (bank_seen holds bank.old))
+        (outside (F.seen files.old) (bank_seen holds bank.old) (K.seen out.old))
+        → IsWhole (asked_rule words.now (bank_seen holds bank.old))
+        (outside (F.seen files.old) (bank_seen holds bank.old) (K.seen out.old))
+        (outside (F.seen files.new) (bank_seen holds bank.new) (K.seen out.new)) result }
 
     // Only words that are no command are answered so, and they always are.
     ensures words { result ≡ Status.Words → asked words.now ≡ None }
@@ -86,39 +90,47 @@ pub fn strand_main<F: Files, K: Sink>(
         → Ends Status.Words words_fault (K.seen out.old) (K.seen out.new) result }
 
     // A judge's no comes only where no set that the order allows has the crash image.
-    ensures no { result ≡ Status.No → Refutes (asked_rule words.now bank.old)
-        (outside (F.seen files.old) bank.old (K.seen out.old))
-        (outside (F.seen files.new) bank.new (K.seen out.new)) }
+    ensures no { result ≡ Status.No → Refutes (asked_rule words.now (bank_seen holds bank.old))
+        (outside (F.seen files.old) (bank_seen holds bank.old) (K.seen out.old))
+        (outside (F.seen files.new) (bank_seen holds bank.new) (K.seen out.new)) }
 
     // What was given is refused where it must be, and only there: with its cause and its place.
-    ensures refused { (refused : Refusal) → IsRefused (asked_rule words.now bank.old)
-        (outside (F.seen files.old) bank.old (K.seen out.old)) refused
+    ensures refused { (refused : Refusal) → IsRefused (asked_rule words.now (bank_seen holds bank.old))
+        (outside (F.seen files.old) (bank_seen holds bank.old) (K.seen out.old)) refused
         → AnswersRefusal
-        (outside (F.seen files.old) bank.old (K.seen out.old))
-        (outside (F.seen files.new) bank.new (K.seen out.new)) refused result }
-    ensures input { result ≡ Status.Input → RefusalCause (asked_rule words.now bank.old)
-        (outside (F.seen files.old) bank.old (K.seen out.old))
-        (outside (F.seen files.new) bank.new (K.seen out.new)) result }
-    ensures limit { result ≡ Status.Limit → RefusalCause (asked_rule words.now bank.old)
-        (outside (F.seen files.old) bank.old (K.seen out.old))
-        (outside (F.seen files.new) bank.new (K.seen out.new)) result }
-    ensures stop_past { result ≡ Status.StopPast → RefusalCause (asked_rule words.now bank.old)
-        (outside (F.seen files.old) bank.old (K.seen out.old))
-        (outside (F.seen files.new) bank.new (K.seen out.new)) result }
+        (outside (F.seen files.old) (bank_seen holds bank.old) (K.seen out.old))
+        (outside (F.seen files.new) (bank_seen holds bank.new) (K.seen out.new)) refused result }
+    ensures input { result ≡ Status.Input → RefusalCause (asked_rule words.now (bank_seen holds bank.old))
+        (outside (F.seen files.old) (bank_seen holds bank.old) (K.seen out.old))
+        (outside (F.seen files.new) (bank_seen holds bank.new) (K.seen out.new)) result }
+    ensures limit { result ≡ Status.Limit → RefusalCause (asked_rule words.now (bank_seen holds bank.old))
+        (outside (F.seen files.old) (bank_seen holds bank.old) (K.seen out.old))
+        (outside (F.seen files.new) (bank_seen holds bank.new) (K.seen out.new)) result }
+    ensures stop_past { result ≡ Status.StopPast → RefusalCause (asked_rule words.now (bank_seen holds bank.old))
+        (outside (F.seen files.old) (bank_seen holds bank.old) (K.seen out.old))
+        (outside (F.seen files.new) (bank_seen holds bank.new) (K.seen out.new)) result }
 
     // Each fault outside has its cause.
-    ensures file_fault { result ≡ Status.FileFault → FileCause (asked_rule words.now bank.old)
-        (outside (F.seen files.old) bank.old (K.seen out.old))
-        (outside (F.seen files.new) bank.new (K.seen out.new)) }
-    ensures module_fault { result ≡ Status.ModuleFault → ModuleCause (asked_rule words.now bank.old)
-        (outside (F.seen files.old) bank.old (K.seen out.old))
-        (outside (F.seen files.new) bank.new (K.seen out.new)) }
-    ensures sink_fault { result ≡ Status.SinkFault → SinkCause (asked_rule words.now bank.old)
-        (outside (F.seen files.old) bank.old (K.seen out.old))
-        (outside (F.seen files.new) bank.new (K.seen out.new)) result }
+    ensures file_fault { result ≡ Status.FileFault → FileCause (asked_rule words.now (bank_seen holds bank.old))
+        (outside (F.seen files.old) (bank_seen holds bank.old) (K.seen out.old))
+        (outside (F.seen files.new) (bank_seen holds bank.new) (K.seen out.new)) }
+    ensures module_fault { result ≡ Status.ModuleFault → ModuleCause (asked_rule words.now (bank_seen holds bank.old))
+        (outside (F.seen files.old) (bank_seen holds bank.old) (K.seen out.old))
+        (outside (F.seen files.new) (bank_seen holds bank.new) (K.seen out.new)) }
+    ensures sink_fault { result ≡ Status.SinkFault → SinkCause (asked_rule words.now (bank_seen holds bank.old))
+        (outside (F.seen files.old) (bank_seen holds bank.old) (K.seen out.old))
+        (outside (F.seen files.new) (bank_seen holds bank.new) (K.seen out.new)) result }
     ensures memory { result ≡ Status.Memory → MemoryCause (asked words.now)
-        (outside (F.seen files.old) bank.old (K.seen out.old))
-        (outside (F.seen files.new) bank.new (K.seen out.new)) }
+        (outside (F.seen files.old) (bank_seen holds bank.old) (K.seen out.old))
+        (outside (F.seen files.new) (bank_seen holds bank.new) (K.seen out.new)) }
+
+    // No fault passes under another status: the sink's never, the others' where the text was put whole.
+    ensures no_sink_fault { result ≢ Status.SinkFault
+        → (K.seen out.new).faults ≡ (K.seen out.old).faults }
+    ensures no_file_fault { IsPutWhole result → result ≢ Status.FileFault
+        → (F.seen files.new).faults ≡ (F.seen files.old).faults }
+    ensures no_module_fault { IsPutWhole result → result ≢ Status.ModuleFault
+        → (bank_seen holds bank.new).faults ≡ (bank_seen holds bank.old).faults }
 {
     run_command(alloc, words, files, out, bank)
 }
@@ -130,8 +142,8 @@ fn make<F: Files>(
     files: &mut F,
     bank: &mut ModuleBank,
 ) -> Result<Made, OutOfMemory>
-    ensures { Comes (rule_of (Some (view command.entry)) bank.old)
-        (world (F.seen files.old) bank.old) (world (F.seen files.new) bank.new) result }
+    ensures { Comes (rule_of (Some (view command.entry)) (bank_seen holds bank.old))
+        (world (F.seen files.old) (bank_seen holds bank.old)) (world (F.seen files.new) (bank_seen holds bank.new)) result }
 {
     match command {
         Command::Asm { text } => asm_text(alloc, text, files),
@@ -139,6 +151,9 @@ fn make<F: Files>(
         Command::Run { words } => report_run(alloc, words, files, bank),
         Command::Judge { words, crash } => judge_crash(alloc, words, crash, files, bank),
         Command::Trace { words } => trace_run(alloc, words, files, bank),
+        Command::Gen { seed, size } => judge_generated(alloc, seed, size, bank),
+        Command::GenImage { seed, size } => image_generated(alloc, seed, size),
+        Command::GenSchedule { seed, size } => schedule_generated(alloc, seed, size),
     }
 }
 
@@ -150,9 +165,9 @@ fn run_command<F: Files, K: Sink>(
     out: &mut K,
     bank: &mut ModuleBank,
 ) -> Status
-    ensures { Runs (asked_rule words.now bank.old)
-        (outside (F.seen files.old) bank.old (K.seen out.old))
-        (outside (F.seen files.new) bank.new (K.seen out.new)) result }
+    ensures { Runs (asked_rule words.now (bank_seen holds bank.old))
+        (outside (F.seen files.old) (bank_seen holds bank.old) (K.seen out.old))
+        (outside (F.seen files.new) (bank_seen holds bank.new) (K.seen out.new)) result }
 {
     match read_command(words) {
         None => put_text(out, Status::Words, b"fault words\n"),

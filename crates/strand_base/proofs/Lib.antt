@@ -1,4 +1,6 @@
+pub mod Counted
 pub mod Counting
+pub mod Finding
 pub mod Texts
 pub mod Values
 pub mod Again

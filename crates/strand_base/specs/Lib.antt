@@ -6,6 +6,7 @@ pub mod Plan
 pub mod SinkInMemory
 pub mod FilesInMemory
 pub mod ModuleSeen
+pub mod Places
 pub mod Text
 pub mod Number
 pub mod Puts

@@ -34,8 +34,13 @@ pub record SinkInMemory : Type 0 where
 
 -- what the trait sees of it
 abbrev pub sink_in_memory : SinkInMemory → SinkSeen
-sink_in_memory sink = record { taken = taken_of sink.kept; faults = sink.faults }
+sink_in_memory sink = record { taken = taken_of sink.kept; faults = sink.faults; puts = sink.plan.made }
+
+pub record NeverFailing : Type 0 where
+  pub kept : Kept
+  -- how many puts were made
+  pub puts : ℕ
 
 -- what the trait sees of a sink that never fails
-abbrev pub sink_never_failing : Kept → SinkSeen
-sink_never_failing kept = record { taken = taken_of kept; faults = 0 }
+abbrev pub sink_never_failing : NeverFailing → SinkSeen
+sink_never_failing sink = record { taken = taken_of sink.kept; faults = 0; puts = sink.puts }

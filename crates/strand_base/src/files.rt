@@ -28,8 +28,8 @@ impl From<AllocError> for FetchFault {
 /// Files that are read whole, by name (docs/outside.md).
 ///
 /// `seen` is what contracts know of them: the bytes under each name, where the object tells them, the
-/// count of faults, which never falls, the number of fetches, and the name of the last fetch that
-/// failed.
+/// count of faults, which rises at failures alone, the number of fetches, and the name of the last fetch
+/// that failed.
 pub trait Files {
     ghost seen: { Self → FilesSeen };
 

@@ -8,7 +8,8 @@ pub struct ModuleFailed;
 /// A memory module: words of 64 bits, numbered from 0 (docs/outside.md).
 ///
 /// `holds` is what contracts know of it: its size, which never changes, its words, where the object tells
-/// them, and the count of faults, which never falls.
+/// them, the count of faults, which rises at failures alone, and the number of loads and stores, each of
+/// which raises it by one or leaves it at 2^64 - 1.
 pub trait PmModule: Drop {
     ghost holds: { Self → ModuleSeen };
 

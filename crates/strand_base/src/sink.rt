@@ -6,8 +6,9 @@ pub struct SinkFailed;
 
 /// Where bytes are put, one piece after the other (docs/outside.md).
 ///
-/// `seen` is what contracts know of it: the bytes taken so far, where the object tells them, and the count
-/// of faults, which never falls.
+/// `seen` is what contracts know of it: the bytes taken so far, where the object tells them, the count of
+/// faults, which rises at failures alone, and the number of puts, which each put raises by one or leaves
+/// at 2^64 - 1.
 pub trait Sink {
     ghost seen: { Self → SinkSeen };
 

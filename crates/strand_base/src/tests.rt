@@ -122,6 +122,7 @@ fn files_that_never_fail(rt: HostRuntime) {
 
 #[test]
 fn files_of_the_system(rt: HostRuntime) {
+    let long = "a".repeat(rt.alloc(), 300).expect(&rt, "memory is left");
     fs::write(&rt, "image", "bytes").expect(&rt, "the file is written");
     fetch_each(
         &rt,
@@ -131,6 +132,9 @@ fn files_of_the_system(rt: HostRuntime) {
             ("image", 5, Ok(()), "bytes"),
             ("image", 4, Err(FetchFault::TooLong), "bytes"),
             ("absent", 5, Err(FetchFault::Failed), ""),
+            // a folder, and a name of 300 bytes
+            (".", 5, Err(FetchFault::Failed), ""),
+            (&long, 5, Err(FetchFault::Failed), ""),
         ],
     );
     fs::remove_file(&rt, "image").expect(&rt, "the file is removed");

@@ -9,7 +9,7 @@ use Rattle.strand_modules.specs.Bank.{BankSeen}
 use Rattle.strand_control.specs.declared.request.Request.{Request}
 use Rattle.strand_control.specs.declared.request.WriteTurn.{WriteTurn}
 use Rattle.strand_control.specs.declared.request.WriteTurn.TheVariants.{Written, NoEntry, OlderWaits, Fault}
-use Rattle.strand_control.specs.Places.{place_of, address_of}
+use Rattle.strand_base.specs.Places.{place_of, address_of}
 use Rattle.strand_control.specs.Flight.{Flight, LieInBank, Writes}
 
 pub lies_more : (requests : List Request) (size : ℕ) (new : Request) → LieInBank requests size → (new.word ≡ address_of (place_of new.word)) × (place_of new.word < size) → LieInBank (requests ++ new ∷ []) size

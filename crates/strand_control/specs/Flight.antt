@@ -3,7 +3,7 @@ use Rattle.std.specs.Prelude.{◌≡◌, ℕ, ◌<◌, Bool, true, false, ◌==�
 use Rattle.std.specs.declared.option.Option.{Option}
 use Rattle.strand_base.specs.Counting.{any_below}
 use Rattle.strand_modules.specs.Bank.{BankSeen, Stores, store_refused}
-use Rattle.strand_control.specs.Places.{place_of, address_of}
+use Rattle.strand_base.specs.Places.{place_of, address_of}
 use Rattle.strand_control.specs.declared.request.Request.{Request}
 use Rattle.strand_control.specs.declared.request.WriteTurn.{WriteTurn}
 use Rattle.strand_control.specs.declared.request.WriteTurn.TheVariants.{Written, NoEntry, OlderWaits, Fault}

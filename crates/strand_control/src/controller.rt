@@ -1,5 +1,6 @@
 ghost use Rattle.std.specs.Prelude.{◌≡◌, ◌<◌, ◌≤◌, ◌++◌, [], ◌∷◌, IfOk, length, slice_get, remove, nat_lt};
 ghost use Rattle.strand_control.specs.Flight.{LieInBank, older_waits, Writes};
+ghost use Rattle.strand_modules.specs.Seen.{bank_seen};
 
 use crate::request::{Request, WriteTurn};
 use std::alloc::Global;
@@ -76,8 +77,8 @@ impl Controller {
     /// the list. A fault comes only where the bank refused that store: the count of faults of the module
     /// that it names rose, and so did `stores` of its refusals.
     pub fn write(&mut self, j: u32, bank: &mut ModuleBank) -> WriteTurn
-        requires { LieInBank self.old.requests bank.old.size }
-        ensures { Writes self.old self.new bank.old bank.new j result }
+        requires { LieInBank self.old.requests (bank_seen holds bank.old).size }
+        ensures { Writes self.old self.new (bank_seen holds bank.old) (bank_seen holds bank.new) j result }
     {
         let Some(r) = self.request_at(j) else {
             return WriteTurn::NoEntry;

@@ -1,8 +1,10 @@
 ghost use Rattle.std.specs.Prelude.{◌≡◌, ◌<◌, length};
 ghost use Rattle.strand_control.specs.Flight.{LieInBank};
+ghost use Rattle.strand_modules.specs.Seen.{bank_seen};
 
 use super::*;
 use std::test::*;
+use strand_base::PmModule;
 use strand_modules::{ModuleBank, RamModule};
 
 // A request of core 0 and buffer 0 comes to the end, to the word at a place of a bank of two words.
@@ -26,9 +28,9 @@ fn accept(control: &mut Controller, number: u32, place: u64, value: u64) -> Requ
 
 fn write(control: &mut Controller, j: u32, bank: &mut ModuleBank) -> WriteTurn
     requires lie { LieInBank control.old.requests 2 }
-    requires size { bank.old.size ≡ 2 }
+    requires size { (bank_seen holds bank.old).size ≡ 2 }
     ensures lie { LieInBank control.new.requests 2 }
-    ensures size { bank.new.size ≡ 2 }
+    ensures size { (bank_seen holds bank.new).size ≡ 2 }
 {
     control.write(j, bank)
 }
@@ -38,7 +40,12 @@ fn a_word_is_written_in_the_order_of_sending(rt: HostRuntime) -> Result<(), Fail
     let alloc = rt.alloc();
     let mut module = RamModule::new(alloc, 2).ok().ok_or("memory")?;
     module.fail_at(1).ok().ok_or("memory")?;
-    let mut bank = ModuleBank::single(module);
+    let mut modules: Vec<Box<dyn PmModule>> = Vec::new(alloc);
+    modules.push(Box::new(alloc, module)?)?;
+    let mut bank = ModuleBank::new(alloc, modules).ok().ok_or("a bank")?;
+    if bank.words() != 2 {
+        return Err("another size".into());
+    }
     let mut control = Controller::new(alloc, 3).ok().ok_or("memory")?;
     assert!(rt; control.room());
     let older = accept(&mut control, 4, 1, 5);

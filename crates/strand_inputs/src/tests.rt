@@ -73,6 +73,20 @@ fn a_schedule_is_read_and_printed(rt: HostRuntime) -> Result<(), Fail> {
 }
 
 #[test]
+fn equal_steps_are_printed_as_one_line(rt: HostRuntime) -> Result<(), Fail> {
+    let mut schedule = Schedule::new(rt.alloc());
+    schedule.push(Step::Core(0)).ok().ok_or("memory")?;
+    schedule.push(Step::Core(0)).ok().ok_or("memory")?;
+    schedule.push(Step::Write(1)).ok().ok_or("memory")?;
+    let mut printed = Vec::new(rt.alloc());
+    print_schedule(&schedule, &mut printed)
+        .ok()
+        .ok_or("memory")?;
+    assert_eq!(rt; printed.as_slice(), b"c 0 * 2\nw 1\n".as_slice());
+    Ok(())
+}
+
+#[test]
 fn a_schedule_is_refused_at_its_first_fault(rt: HostRuntime) {
     let table: [(&[u8], InputFault); 6] = [
         (

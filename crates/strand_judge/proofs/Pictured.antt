@@ -7,7 +7,8 @@ use Rattle.strand_events.specs.declared.event.Event.{Event}
 use Rattle.strand_events.specs.Trace.{is_persist, word_at, value_at, event_is}
 use Rattle.strand_events.specs.Order.{Set, sets_word}
 use Rattle.strand_events.proofs.Images.{image_yes, image_no}
-use Rattle.strand_events.specs.Places.{address_of, place_of, LieIn}
+use Rattle.strand_base.specs.Places.{address_of, place_of}
+use Rattle.strand_events.specs.Places.{LieIn}
 use Rattle.strand_judge.specs.Images.{at_word, IsImageBelow}
 
 pub place_again : (k : ℕ) → place_of (address_of k) ≡ k

@@ -5,7 +5,7 @@ use Rattle.std.proofs.lemmas.Bool.{and_parts, and_from, eqb-true, eq-eqb, ltb-tr
 use Rattle.strand_events.specs.declared.event.Event.{Event}
 use Rattle.strand_events.specs.Order.{Set, image}
 use Rattle.strand_judge.specs.Judged.{Agrees}
-use Rattle.strand_events.specs.Places.{address_of, place_of}
+use Rattle.strand_base.specs.Places.{address_of, place_of}
 use Rattle.strand_judge.specs.Words.{crash_of}
 use Rattle.strand_judge.specs.Images.{at_word, IsImage, DifferFirst, AreSame}
 use Rattle.strand_judge.specs.Verdicts.{IsFirstDifference}

@@ -2,7 +2,7 @@
 use Rattle.std.specs.Prelude.{◌≡◌, ℕ, ◌<◌, List, length, slice_index}
 use Rattle.strand_events.specs.declared.event.Event.{Event}
 use Rattle.strand_events.specs.Order.{Set, image_below}
-use Rattle.strand_events.specs.Places.{address_of, place_of}
+use Rattle.strand_base.specs.Places.{address_of, place_of}
 
 -- the value of a word in a list by places
 abbrev pub at_word : List ℕ → ℕ → ℕ

@@ -1,6 +1,6 @@
 -- The persists that have the crash image's value, and what a settled set holds because of them.
 use Rattle.std.specs.Prelude.{◌≡◌, ℕ, zero, suc, ◌+◌, ◌<◌, ◌≤◌, true, ◌&&◌, ◌==◌, List, length, slice_index, slice_set, if◌then◌else◌}
-use Rattle.strand_events.specs.Places.{address_of, place_of}
+use Rattle.strand_base.specs.Places.{address_of, place_of}
 use Rattle.strand_inputs.specs.declared.mode.Mode.{Mode}
 use Rattle.strand_events.specs.declared.event.Event.{Event}
 use Rattle.strand_events.specs.Trace.{is_persist, word_of, value_of, word_at, value_at, event_is}

@@ -1,6 +1,6 @@
 -- The words of a crash image, by their places in its list.
 use Rattle.std.specs.Prelude.{ℕ, ◌&&◌, ◌==◌, nat_lt, List, length, slice_index}
-use Rattle.strand_events.specs.Places.{place_of, address_of}
+use Rattle.strand_base.specs.Places.{place_of, address_of}
 use Rattle.strand_judge.specs.Judged.{Crash}
 
 -- the crash image of two lists: the words' initial values and their values after the crash

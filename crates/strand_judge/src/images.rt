@@ -2,7 +2,8 @@
 ghost use Rattle.std.specs.Prelude.{◌≡◌, ◌<◌, ◌&&◌, length, slice_set, if◌then◌else◌, IfOk, MatchOption};
 ghost use Rattle.strand_events.specs.Trace.{event_is, is_persist, word_at, value_at};
 ghost use Rattle.strand_events.specs.Order.{held};
-ghost use Rattle.strand_events.specs.Places.{place_of, LieIn};
+ghost use Rattle.strand_base.specs.Places.{place_of};
+ghost use Rattle.strand_events.specs.Places.{LieIn};
 ghost use Rattle.strand_judge.specs.Images.{IsImage, DifferFirst, AreSame};
 
 use std::alloc::Global;

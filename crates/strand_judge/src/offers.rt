@@ -2,7 +2,8 @@
 ghost use Rattle.std.specs.Prelude.{◌≡◌, ◌+◌, ◌<◌, ◌^◌, ◌==◌, true, List, ℕ, length, IfOk};
 ghost use Rattle.strand_events.specs.declared.event.Event.{Event};
 ghost use Rattle.strand_events.specs.Trace.{is_persist, word_of};
-ghost use Rattle.strand_events.specs.Places.{place_of, LieIn};
+ghost use Rattle.strand_base.specs.Places.{place_of};
+ghost use Rattle.strand_events.specs.Places.{LieIn};
 ghost use Rattle.strand_judge.specs.Words.{crash_of};
 ghost use Rattle.strand_judge.specs.Offered.{nexts_after, firsts_after, asked_of, AreOffered};
 

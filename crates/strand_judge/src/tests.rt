@@ -1,4 +1,4 @@
-ghost use Rattle.std.specs.Prelude.{◌≡◌, ℕ, ◌<◌, ◌^◌, true, length, IfOk};
+ghost use Rattle.std.specs.Prelude.{◌≡◌, ◌<◌, ◌^◌, true, length, IfOk};
 ghost use Rattle.strand_events.specs.Fits.{EventFits};
 ghost use Rattle.strand_events.specs.Order.{is_joined};
 ghost use Rattle.strand_events.specs.Numbers.{numbers_of};

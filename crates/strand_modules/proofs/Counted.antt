@@ -1,14 +1,8 @@
 -- Calls that were accepted one after the other.
 use Rattle.std.proofs.Common.{◌≡◌, ℕ, ◌+◌, refl, arith, ap, ◌∙◌}
 use Rattle.strand_modules.specs.declared.accepted.Accepted.{Accepted}
-use Rattle.strand_modules.specs.Bank.{counted, loads_accepted, stores_accepted}
-
--- some more and then others
-pub counted_again : (a b n : ℕ) → counted b (counted a n) ≡ counted (a + b) n
-counted_again a b n = omega arith
-
-pub counted_none : (n : ℕ) → counted 0 n ≡ n
-counted_none n = omega arith
+use Rattle.strand_modules.specs.Bank.{loads_accepted, stores_accepted}
+use Rattle.strand_base.proofs.Counted.{counted_again, counted_none}
 
 pub stores_none : (a : Accepted) → a ≡ stores_accepted 0 a
 stores_none a = rw (counted_none a.stores) refl

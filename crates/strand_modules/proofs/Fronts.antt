@@ -18,7 +18,7 @@ front_set (x ∷ xs) (y ∷ ws) (suc i) h w =
     ap (λ l. x ∷ l) (front_set xs ws i inside (omega arith))
 
 -- one word more in front
-pub front_more : (told : Option (List ℕ)) (xs : List ℕ) (i size : ℕ) → i < length xs → length xs ≤ size → IfSome (front_written (take i xs) told) (λ words. length words ≡ size)
+pub front_more : (told : Option (List ℕ)) (xs : List ℕ) (i size : ℕ) → i < length xs → i < size → IfSome (front_written (take i xs) told) (λ words. length words ≡ size)
     → written (front_written (take i xs) told) i (get_or xs i 0) ≡ front_written (take (i + 1) xs) told
 front_more None xs i size h room whole = refl
 front_more (Some ws) xs i size h room whole = rw add-one (ap Some (front_set xs ws i h (omega (arith, whole))))
@@ -38,10 +38,10 @@ written_front xs (Some ws) i v lt = ap Some (rw (length-set xs i v) (set_front x
     set_front (x ∷ xs) ys (suc i) v lt = ap (λ (l : List ℕ). x ∷ l) (set_front xs ys i v (omega arith))
 
 pub keeps_same : (bank : BankSeen) → Keeps bank bank
-keeps_same bank = record { size = refl; count = refl; later = λ k. omega arith }
+keeps_same bank = record { size = refl; sizes = refl; count = refl; later = λ k. omega arith }
 
 pub keeps_trans : (a b c : BankSeen) → Keeps a b → Keeps b c → Keeps a c
-keeps_trans a b c first second = record { size = second.size ∙ first.size; count = second.count ∙ first.count; later = λ k. omega (arith, first.later k, second.later k) }
+keeps_trans a b c first second = record { size = second.size ∙ first.size; sizes = second.sizes ∙ first.sizes; count = second.count ∙ first.count; later = λ k. omega (arith, first.later k, second.later k) }
 
 -- a refusal after calls that were accepted
 pub refuses_after : (count : Refusals → Refusals) (a b c : BankSeen) (k : ℕ) → Keeps a b → b.refused ≡ a.refused → Refuses count b c k → Refuses count a c k

@@ -1,2 +1,10 @@
+pub mod Sizes
+pub mod Told
+pub mod Changed
+pub mod Accesses
 pub mod Fronts
 pub mod Counted
+pub mod Filled
+pub mod Gathered
+pub mod Copied
+pub mod Replaced

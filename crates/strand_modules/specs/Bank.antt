@@ -1,10 +1,11 @@
 -- A bank of memory modules, as contracts see it at one moment, and its calls.
-use Rattle.std.specs.Prelude.{◌≡◌, ℕ, ◌+◌, ◌-◌, ◌%◌, ◌^◌, ◌<◌, ◌≤◌, min, max, List, [], ◌∷◌, ◌++◌, length, take, drop, slice_get, slice_set, slice_index, slice_index_or, Some, IfOk, IfErr, IfSome, OnOk, OnErr}
+use Rattle.std.specs.Prelude.{◌≡◌, ℕ, zero, suc, ◌+◌, ◌%◌, ◌<◌, ◌≤◌, List, ◌++◌, length, take, drop, map, slice_get, slice_set, slice_index, slice_index_or, Some, IfOk, IfErr, IfSome, OnOk, OnErr}
 use Rattle.std.specs.Option.{option_map}
 use Rattle.std.specs.declared.option.Option.{Option}
 use Rattle.std.specs.declared.result.Result.{Result}
 use Rattle.strand_base.specs.ModuleSeen.{ModuleSeen, written}
-use Rattle.strand_base.specs.Counts.{Rose}
+use Rattle.strand_base.specs.Counts.{Rose, counted, next}
+use Rattle.strand_modules.specs.Parts.{words_in, told_words}
 use Rattle.strand_modules.specs.declared.refusals.Refusals.{Refusals}
 use Rattle.strand_modules.specs.declared.refusals.AtModule.{AtModule}
 use Rattle.strand_modules.specs.declared.accepted.Accepted.{Accepted}
@@ -12,28 +13,36 @@ use Rattle.strand_modules.specs.declared.accepted.Accepted.{Accepted}
 pub record BankSeen : Type 0 where
   -- how many words it has
   pub size : ℕ
+  -- how many words each module has
+  pub sizes : List ℕ
   -- its words, where all its modules tell theirs
   pub told : Option (List ℕ)
   -- each module's count of faults
   pub faults : List ℕ
-  -- what each module refused
+  -- how many loads and stores each module was asked for
+  pub calls : List ℕ
+  -- what each module refused; there are eight, of which the first are those of its modules
   pub refused : List Refusals
   -- what was accepted, of all modules together
   pub accepted : Accepted
 
--- the bank of one module
-abbrev pub bank_of_one : ModuleSeen → Refusals → Accepted → BankSeen
-bank_of_one part refused accepted = record { size = part.size; told = part.told; faults = part.faults ∷ []; refused = refused ∷ []; accepted = accepted }
+-- the bank of these modules, with what they refused and accepted
+abbrev pub bank_of : List ModuleSeen → List Refusals → Accepted → BankSeen
+bank_of parts refused accepted = record {
+  size = words_in parts;
+  sizes = map (λ m. m.size) parts;
+  told = told_words parts;
+  faults = map (λ m. m.faults) parts;
+  calls = map (λ m. m.calls) parts;
+  refused = refused;
+  accepted = accepted;
+}
 
 abbrev pub nothing_refused : Refusals
 nothing_refused = record { fills = 0; stores = 0; reads = 0 }
 
 abbrev pub nothing_accepted : Accepted
 nothing_accepted = record { loads = 0; stores = 0 }
-
--- so many more; a count stays at the last value of a u64
-abbrev pub counted : ℕ → ℕ → ℕ
-counted more n = max n (min (n + more) (2 ^ 64 - 1))
 
 abbrev pub loads_accepted : ℕ → Accepted → Accepted
 loads_accepted more a = record a { loads = counted more a.loads }
@@ -50,9 +59,19 @@ store_refused r = record r { stores = counted 1 r.stores }
 abbrev pub read_refused : Refusals → Refusals
 read_refused r = record r { reads = counted 1 r.reads }
 
+-- one call more of the module that has word i
+abbrev pub asked : ℕ → List ℕ → List ℕ
+asked i calls = slice_set calls (i % length calls) (next (slice_index calls (i % length calls)))
+
+-- one for each of the first n words, in order
+abbrev pub asked_first : ℕ → List ℕ → List ℕ
+asked_first zero calls = calls
+asked_first (suc n) calls = asked n (asked_first n calls)
+
 -- no call changes the number of words or of modules, and no count of faults falls
 pub record Keeps (old new : BankSeen) : Type 0 where
   pub size : new.size ≡ old.size
+  pub sizes : new.sizes ≡ old.sizes
   pub count : length new.faults ≡ length old.faults
   pub later : (k : ℕ) → slice_index old.faults k ≤ slice_index new.faults k
 
@@ -67,6 +86,8 @@ pub record Loads (old new : BankSeen) (i : ℕ) (result : Result ℕ AtModule) :
   pub kept : Keeps old new
   pub same : new.told ≡ old.told
   pub value : IfOk result (λ value. IfSome old.told (λ words. slice_get words i ≡ Some value))
+  pub called : new.calls ≡ asked i old.calls
+  pub quiet : OnOk result (new.faults ≡ old.faults)
   pub accepted : OnOk result (new.refused ≡ old.refused)
   pub counted : OnOk result (new.accepted ≡ loads_accepted 1 old.accepted)
   pub refused : IfErr result (λ e. (e.«module» ≡ i % length old.faults) × Refuses read_refused old new e.«module»)
@@ -77,6 +98,8 @@ pub record Stores {T : Type 0} (count : Refusals → Refusals) (old new : BankSe
   pub kept : Keeps old new
   -- what is told is all the words
   pub whole : IfSome old.told (λ words. length words ≡ old.size)
+  pub called : new.calls ≡ asked i old.calls
+  pub quiet : OnOk result (new.faults ≡ old.faults)
   pub done : OnOk result (new.told ≡ written old.told i value)
   pub accepted : OnOk result (new.refused ≡ old.refused)
   pub counted : OnOk result (new.accepted ≡ stores_accepted 1 old.accepted)
@@ -92,8 +115,11 @@ front_written front told = option_map (λ words. front ++ drop (length front) wo
 pub record Fills {T : Type 0} (old new : BankSeen) (words : List ℕ) (result : Result T AtModule) : Type 0 where
   pub kept : Keeps old new
   pub done : OnOk result (new.told ≡ front_written words old.told)
+  pub called : OnOk result (new.calls ≡ asked_first (length words) old.calls)
+  pub quiet : OnOk result (new.faults ≡ old.faults)
   pub accepted : OnOk result (new.refused ≡ old.refused)
   pub counted : OnOk result (new.accepted ≡ stores_accepted (length words) old.accepted)
-  -- the words before the refused one are stored
+  -- the words before the refused one are stored, and none behind it was asked for
   pub refused : IfErr result (λ e. (n : ℕ) × (n < length words) × (e.«module» ≡ n % length old.faults)
-      × (new.told ≡ front_written (take n words) old.told) × (new.accepted ≡ stores_accepted n old.accepted) × Refuses fill_refused old new e.«module»)
+      × (new.told ≡ front_written (take n words) old.told) × (new.accepted ≡ stores_accepted n old.accepted)
+      × (new.calls ≡ asked_first (n + 1) old.calls) × Refuses fill_refused old new e.«module»)

@@ -1,2 +1,9 @@
+pub mod Parts
 pub mod Bank
+pub mod Reading
+pub mod Founded
+pub mod Replacing
+pub mod Copying
+pub mod Seen
+pub mod Here
 pub mod RamModuleSeen

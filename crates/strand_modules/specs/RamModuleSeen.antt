@@ -6,7 +6,7 @@ use Rattle.strand_modules.specs.declared.ram_module.RamModule.{RamModule}
 
 -- what the trait sees of it
 abbrev pub ram_module_seen : RamModule → ModuleSeen
-ram_module_seen ram = record { size = vec_len ram.words; told = Some ram.words.items; faults = ram.faults }
+ram_module_seen ram = record { size = vec_len ram.words; told = Some ram.words.items; faults = ram.faults; calls = ram.plan.made }
 
 -- which loads and stores are to fail, counted together
 abbrev pub plan_of : RamModule → Plan

@@ -3,10 +3,19 @@
 
 mod accepted;
 mod bank;
+mod calls;
+mod copying;
+mod faults;
+mod founding;
+mod parts;
 mod ram_module;
 mod refusals;
+mod replacing;
+#[cfg(test)]
+mod tests;
 
 pub use accepted::Accepted;
 pub use bank::ModuleBank;
+pub use faults::{BankFault, ReadAllFault, Refused, ReplaceFault};
 pub use ram_module::RamModule;
 pub use refusals::{AtModule, Refusals};

@@ -19,7 +19,7 @@ impl RamModule {
     /// A module of so many words, each 0.
     pub fn new(alloc: Global, words: u64) -> Result<RamModule, OutOfMemory>
         ensures seen { IfOk result (λ ram. ram_module_seen ram
-            ≡ record { size = words; told = Some (replicate words 0); faults = 0 }) }
+            ≡ record { size = words; told = Some (replicate words 0); faults = 0; calls = 0 }) }
         ensures plan { IfOk result (λ ram. plan_of ram ≡ record { made = 0; failing = [] }) }
     {
         let words = vec![in alloc; 0; words as usize]?;

@@ -1,4 +1,4 @@
--- The levels in one pass over the edges, and with them the first persist of the level below and the edge that brought it.
+-- The levels in one pass over the edges, and with them the first persist that leads to an event and the edge that brought it.
 use Rattle.std.specs.Prelude.{◌≡◌, ℕ, suc, ◌+◌, ◌<◌, ◌≤◌, Bool, true, ◌&&◌, ◌||◌, ◌==◌, nat_lt, List, length, slice_index, slice_set, if◌then◌else◌}
 use Rattle.strand_inputs.specs.declared.mode.Mode.{Mode}
 use Rattle.strand_events.specs.declared.event.Event.{Event}

@@ -9,8 +9,8 @@ use strand_base::OutOfMemory;
 use strand_events::Event;
 use strand_order::{Edge, Graph};
 
-/// For each event its level, the first persist of the level below its own that leads to it, and one more than the
-/// event by which that one does, or 0 where there is none.
+/// For each event its level, the first persist that leads to it (of the level below its own for a persist, and of its
+/// own for another event; 0 where there is none), and one more than the event by which that one does, or 0.
 #[derive(Drop)]
 pub(crate) struct Traces {
     pub(crate) levels: Vec<u32>,

@@ -8,6 +8,7 @@ pub mod Persists
 pub mod Refusals
 pub mod Report
 pub mod RunSeen
+pub mod Summary
 pub mod Trace
 pub mod Verdict
 pub mod Words

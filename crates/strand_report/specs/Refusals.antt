@@ -18,7 +18,7 @@ use Rattle.strand_inputs.specs.declared.fault.InputFault.TheVariants as input
 use Rattle.strand_report.specs.declared.refusal.ContentFault.{ContentFault}
 use Rattle.strand_report.specs.declared.refusal.ContentFault.TheVariants.{TooLong, Text, Image, Input}
 use Rattle.strand_report.specs.declared.refusal.Refusal.{Refusal}
-use Rattle.strand_report.specs.declared.refusal.Refusal.TheVariants.{File, Stop, Bank}
+use Rattle.strand_report.specs.declared.refusal.Refusal.TheVariants.{File, Stop, Bank, Size}
 
 -- "fault limit K ..": something of file K is outside its limits
 abbrev pub limit_line : ℕ → List (List ℕ) → List ℕ
@@ -86,15 +86,17 @@ content_line k (Image fault) = image_fault_line k fault
 content_line k (Input fault) = input_fault_line k fault
 
 -- of file K, counted from 1 in the order in which a command names its files; "fault stop STOP STEPS", where the
--- schedule has fewer steps; "fault bank NEED HAVE", in words
+-- schedule has fewer steps; "fault bank NEED HAVE", in words; "fault limit size N", of a schedule that is generated
 abbrev pub refusal_line : Refusal → List ℕ
 refusal_line (File k fault) = content_line k fault
 refusal_line (Stop past) =
     line_text (codes "fault" ∷ codes "stop" ∷ decimal past.stop ∷ decimal past.steps ∷ [])
 refusal_line (Bank need have) =
     line_text (codes "fault" ∷ codes "bank" ∷ decimal need ∷ decimal have ∷ [])
+refusal_line (Size size) =
+    line_text (codes "fault" ∷ codes "limit" ∷ codes "size" ∷ decimal size ∷ [])
 
--- whether something is outside its limits: the bytes of a file, a number in it, or the words of the bank
+-- whether something is outside its limits: the bytes of a file, a number in it, the words of the bank, or a size
 abbrev pub content_is_limit : ContentFault → Bool
 content_is_limit (TooLong limit) = true
 content_is_limit (Text (text.Limit what number)) = true
@@ -106,3 +108,4 @@ abbrev pub is_limit : Refusal → Bool
 is_limit (File k fault) = content_is_limit fault
 is_limit (Stop past) = false
 is_limit (Bank need have) = true
+is_limit (Size size) = true

@@ -9,7 +9,7 @@ use crate::members::put_count;
 use strand_base::{OutOfMemory, put};
 
 /// How many numbers are marked.
-fn count_marked(marks: &[bool]) -> usize
+pub fn count_marked(marks: &[bool]) -> usize
     ensures { result ≡ length (marked marks.now) }
 {
     let mut count = 0;

@@ -13,15 +13,18 @@ mod outs;
 mod refusal;
 mod refusal_lines;
 mod run;
+mod summary;
 mod trace;
 mod verdict;
 mod words;
 
+pub use durable::count_marked;
 pub use file_fault::write_file_fault;
 pub use module_fault::{ModuleFault, ModulePhase, write_module_fault};
 pub use refusal::{ContentFault, Refusal};
 pub use refusal_lines::write_refusal;
 pub use run::{RunView, write_run};
+pub use summary::{Summary, write_generated, write_summary};
 pub use trace::write_trace;
 pub use verdict::write_verdict;
 

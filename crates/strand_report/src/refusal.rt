@@ -27,6 +27,8 @@ pub enum Refusal {
     Stop(StopPast),
     /// The bank has `have` words, and the image `need` persistent ones.
     Bank { need: u64, have: u64 },
+    /// A schedule of so many steps was to be generated, which is none or too many.
+    Size { size: u64 },
 }
 
 impl ContentFault {
@@ -44,8 +46,8 @@ impl ContentFault {
 }
 
 impl Refusal {
-    /// Whether something is outside its limits: the bytes of a file, a number in it, or the words of the bank. Else a
-    /// file is not of its form, or the stop is past the steps.
+    /// Whether something is outside its limits: the bytes of a file, a number in it, the words of the bank, or a size.
+    /// Else a file is not of its form, or the stop is past the steps.
     pub fn is_limit(&self) -> bool
         ensures { result ≡ is_limit self.now }
     {
@@ -53,6 +55,7 @@ impl Refusal {
             Refusal::File { fault, .. } => fault.is_limit(),
             Refusal::Stop(_) => false,
             Refusal::Bank { .. } => true,
+            Refusal::Size { .. } => true,
         }
     }
 }

@@ -180,7 +180,7 @@ fn put_content_fault(into: &mut Vec<u8>, file: u32, fault: ContentFault) -> Resu
 }
 
 /// Appends the line of a refusal (docs/FORMATS.md): `fault limit K ..` or `fault input K ..` for the content of a file,
-/// `fault stop STOP STEPS` or `fault bank NEED HAVE`.
+/// `fault stop STOP STEPS`, `fault bank NEED HAVE` or `fault limit size N`.
 ///
 /// `OutOfMemory`: a front of the line is appended. It is also the answer where the reader of a file met it, since this
 /// is no fault of the content and has no line.
@@ -198,6 +198,11 @@ pub fn write_refusal(refusal: Refusal, into: &mut Vec<u8>) -> Result<(), OutOfMe
             into,
             &[Word("fault"), Word("bank")],
             &[Decimal(need), Decimal(have)],
+        ),
+        Refusal::Size { size } => put_fields(
+            into,
+            &[Word("fault"), Word("limit")],
+            &[Word("size"), Decimal(size)],
         ),
     }
 }

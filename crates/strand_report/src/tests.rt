@@ -1,6 +1,7 @@
 use crate::{
-    ContentFault, ModuleFault, ModulePhase, Refusal, RunView, write_file_fault, write_module_fault,
-    write_refusal, write_run, write_trace, write_verdict,
+    ContentFault, ModuleFault, ModulePhase, Refusal, RunView, Summary, write_file_fault,
+    write_generated, write_module_fault, write_refusal, write_run, write_summary, write_trace,
+    write_verdict,
 };
 use std::alloc::Global;
 use std::test::*;
@@ -192,6 +193,34 @@ fn verdicts_are_as_printed(rt: HostRuntime) -> Result<(), Fail> {
 }
 
 #[test]
+fn a_summary_is_as_printed(rt: HostRuntime) -> Result<(), Fail> {
+    let mut least = Numbers::new(rt.alloc());
+    least.push(2)?;
+    let mut summary = Summary {
+        persists: 3,
+        durable: 2,
+        path: 1,
+        done: 9,
+        verdict: Verdict::Yes(least),
+    };
+    let mut text = Vec::new(rt.alloc());
+    write_generated(7, 10, &mut text)?;
+    write_summary(&summary, &mut text)?;
+    summary.verdict = Verdict::No {
+        word: 0x4000_0000,
+        rank: 1,
+    };
+    write_summary(&summary, &mut text)?;
+    assert_eq!(rt;
+        text.as_slice(),
+        b"gen 7 10\npersists 3\ndurable 2\npath 1\ndone 9\njudge yes 1\n\
+        persists 3\ndurable 2\npath 1\ndone 9\njudge no 0000000040000000 1\n"
+            .as_slice()
+    );
+    Ok(())
+}
+
+#[test]
 fn faults_of_files_and_modules_are_as_printed(rt: HostRuntime) -> Result<(), Fail> {
     let mut text = Vec::new(rt.alloc());
     write_file_fault(2, &mut text)?;
@@ -264,7 +293,7 @@ fn refusals_are_as_printed(rt: HostRuntime) -> Result<(), Fail> {
         line: 7,
         value: i64::MIN as i128,
     };
-    let rows: [Row; 26] = [
+    let rows: [Row; 27] = [
         (too_long, true, "fault limit 1 bytes 4096\n"),
         (of_image(cores), true, "fault limit 2 cores 5\n"),
         (of_text(code), true, "fault limit 1 code 0\n"),
@@ -282,6 +311,7 @@ fn refusals_are_as_printed(rt: HostRuntime) -> Result<(), Fail> {
             "fault limit 3 line 1 200001\n",
         ),
         (Refusal::Bank { need: 3, have: 2 }, true, "fault bank 3 2\n"),
+        (Refusal::Size { size: 0 }, true, "fault limit size 0\n"),
         (Refusal::Stop(stop), false, "fault stop 9 8\n"),
         (of_image(ImageFault::Magic), false, "fault input 2 magic\n"),
         (

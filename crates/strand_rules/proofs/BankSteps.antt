@@ -11,7 +11,8 @@ use Rattle.strand_events.specs.Trace.{is_persist, word_at, value_at, event_is}
 use Rattle.strand_events.specs.Order.{held}
 use Rattle.strand_events.proofs.Images.{closed_word}
 use Rattle.strand_modules.specs.Bank.{BankSeen, front_written}
-use Rattle.strand_events.specs.Places.{place_of, address_of, LieIn}
+use Rattle.strand_base.specs.Places.{place_of, address_of}
+use Rattle.strand_events.specs.Places.{LieIn}
 use Rattle.strand_rules.specs.Images.{persistent_image}
 use Rattle.strand_rules.specs.Cycle.{Request, State, unmarked, durable_set, front, eligible, next_event, core_after, item_after, send_after, write_after, done_after, after_turn, turn, after}
 use Rattle.strand_rules.specs.Machine.{StoresOk, StoresErr, Machine, Steps, StandsOn, stored_for, stored_by}

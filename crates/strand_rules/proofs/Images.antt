@@ -6,7 +6,7 @@ use Rattle.std.proofs.lemmas.List.FromFn.{length-map-range_with_len}
 use Rattle.strand_events.specs.declared.event.Event.{Event}
 use Rattle.strand_events.specs.Trace.{is_persist, word_at, value_at, event_is}
 use Rattle.strand_events.specs.Order.{Set, image}
-use Rattle.strand_events.specs.Places.{place_of, address_of}
+use Rattle.strand_base.specs.Places.{place_of, address_of}
 use Rattle.strand_rules.specs.Images.{persistent_image}
 use Rattle.strand_rules.proofs.Keeping.{within}
 use Rattle.strand_rules.proofs.Marked.{map_alike}

@@ -1,9 +1,9 @@
 pub mod Seen
 pub mod Next
-pub mod Finding
 pub mod Marked
 pub mod Dispatching
 pub mod Keeping
+pub mod Fronts
 pub mod Retiring
 pub mod Sending
 pub mod Setup

@@ -15,7 +15,7 @@ use Rattle.strand_rules.specs.Looking.{next_strand, holds_up, must_stall}
 pub core_new : (t : List Event) (e : Event) → core_at (t ++ e ∷ []) (length t) ≡ core_of e
 core_new t e = ap core_in (get_last t e)
 
-number_new : (mode : Mode) (t : List Event) (e : Event) → strand_number mode (t ++ e ∷ []) (length t) ≡ next_strand mode t (core_of e)
+pub number_new : (mode : Mode) (t : List Event) (e : Event) → strand_number mode (t ++ e ∷ []) (length t) ≡ next_strand mode t (core_of e)
 number_new Strict t e = refl
 number_new Epoch t e = refl
 number_new Strand t e = ap (λ c. count_below (length t) (core_event_is is_new_strand c (t ++ e ∷ []))) (core_new t e) ∙ count_agree (length t) (core_event_is is_new_strand (core_of e) (t ++ e ∷ [])) (core_event_is is_new_strand (core_of e) t) (λ k lt. core_event_kept t e is_new_strand (core_of e) k lt)

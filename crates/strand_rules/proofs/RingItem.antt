@@ -28,11 +28,11 @@ module _ (g : Settings) (s : State) (n k : ℕ) (first : front g s n ≡ Some k)
   abbrev test : ℕ → Bool
   test p = core_event_is (is_item g.mode) n s.now.trace p
 
-  one_more : gone then_ n ≡ suc (gone s n)
+  pub one_more : gone then_ n ≡ suc (gone s n)
   one_more = let one : gone s n + 1 ≡ suc (gone s n) = omega arith in number_set s.dispatched n (gone s n + 1) there ∙ one
 
   -- of the other items as many were dispatched
-  below_same : (p : ℕ) → (p ≡ k → ⊥) → test p ≡ true → nat_lt (count_below p test) (gone then_ n) ≡ nat_lt (count_below p test) (gone s n)
+  pub below_same : (p : ℕ) → (p ≡ k → ⊥) → test p ≡ true → nat_lt (count_below p test) (gone then_ n) ≡ nat_lt (count_below p test) (gone s n)
   below_same p ne is = elim (cases_lt (count_below p test) (gone s n)) [
     | inl lt ↦ lt-ltb (count_below p test) (gone then_ n) (omega (arith, lt, one_more)) ∙ sym (lt-ltb (count_below p test) (gone s n) lt)
     | inr le ↦
@@ -41,13 +41,13 @@ module _ (g : Settings) (s : State) (n k : ℕ) (first : front g s n ≡ Some k)
         le-ltb (count_below p test) (gone then_ n) above ∙ sym (le-ltb (count_below p test) (gone s n) le)
   ]
 
-  accepted_other : (p : ℕ) → (p ≡ k → ⊥) → is_accepted g then_ n p ≡ is_accepted g s n p
+  pub accepted_other : (p : ℕ) → (p ≡ k → ⊥) → is_accepted g then_ n p ≡ is_accepted g s n p
   accepted_other p ne = elim (cases_Bool (test p)) [
     | inl yes_ ↦ ap (λ b. test p && b && event_is is_persist s.now.trace p) (below_same p ne yes_)
     | inr no_ ↦ rw no_ refl
   ]
 
-  accepted_apart : (m p : ℕ) → (m ≡ n → ⊥) → is_accepted g then_ m p ≡ is_accepted g s m p
+  pub accepted_apart : (m p : ℕ) → (m ≡ n → ⊥) → is_accepted g then_ m p ≡ is_accepted g s m p
   accepted_apart m p ne = ap (λ d. core_event_is (is_item g.mode) m s.now.trace p && nat_lt (count_below p (core_event_is (is_item g.mode) m s.now.trace)) d && event_is is_persist s.now.trace p) (number_other s.dispatched n m (gone s n + 1) ne)
 
   module _ (done : item_turn g s n (Some k) ≡ Done) (fit : RingsFit g s.now.trace s.dispatched s.durable) where

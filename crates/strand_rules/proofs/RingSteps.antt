@@ -44,14 +44,14 @@ module _ (g : Settings) (t : List Event) (e : Event) (dispatched : List ℕ) (du
   abbrev then_ : State
   then_ = ringed (t ++ e ∷ []) dispatched (durable ++ false ∷ [])
 
-  accepted_kept : (n p : ℕ) → p < length t → is_accepted g then_ n p ≡ is_accepted g before n p
+  pub accepted_kept : (n p : ℕ) → p < length t → is_accepted g then_ n p ≡ is_accepted g before n p
   accepted_kept n p lt = cc (
     core_event_kept t e (is_item g.mode) n p lt,
     count_agree p (core_event_is (is_item g.mode) n (t ++ e ∷ [])) (core_event_is (is_item g.mode) n t) (λ k below. core_event_kept t e (is_item g.mode) n k (omega arith)),
     event_is_kept t e is_persist p lt,
   )
 
-  accepted_new : (n p : ℕ) → length t ≤ p → is_accepted g then_ n p ≡ false
+  pub accepted_new : (n p : ℕ) → length t ≤ p → is_accepted g then_ n p ≡ false
   accepted_new n p le = false_from_ne_true (is_accepted g then_ n p) (λ h.
       let one = and_parts (is_dispatched g then_ n p) (event_is is_persist (t ++ e ∷ []) p) h in
       let two = and_parts (core_event_is (is_item g.mode) n (t ++ e ∷ []) p) (nat_lt (count_below p (core_event_is (is_item g.mode) n (t ++ e ∷ []))) (slice_index dispatched n)) one.0 in

@@ -13,7 +13,7 @@ use Rattle.strand_exec.specs.declared.planned.Plan.{Plan}
 use Rattle.strand_events.specs.declared.event.Event.{Event}
 use Rattle.strand_events.specs.Trace.{is_access, is_persist, is_barrier, is_new_strand, is_join, core_at, word_at, value_at, event_is, core_event_is, strand_number, same_strand, epoch}
 use Rattle.strand_events.specs.Order.{Set, held, conflicts}
-use Rattle.strand_events.specs.Places.{place_of}
+use Rattle.strand_base.specs.Places.{place_of}
 use Rattle.strand_rules.specs.declared.turn.Cause.TheVariants as causes
 use Rattle.strand_rules.specs.declared.turn.Turn.{Turn}
 use Rattle.strand_rules.specs.declared.turn.Turn.TheVariants.{Done, Bubble, Fault}

@@ -1,5 +1,5 @@
 -- The rules for an event that isn't in the trace yet, and the parts of a state that the rules look back over.
-use Rattle.std.specs.Prelude.{ℕ, suc, ◌+◌, ◌%◌, Bool, false, ◌&&◌, ◌||◌, not, ◌==◌, List, [], ◌∷◌, ◌++◌, length, Some, None, if◌then◌else◌}
+use Rattle.std.specs.Prelude.{ℕ, suc, ◌+◌, ◌%◌, Bool, true, false, ◌&&◌, ◌||◌, not, ◌==◌, List, [], ◌∷◌, ◌++◌, length, slice_set, Some, None, if◌then◌else◌}
 use Rattle.std.specs.declared.option.Option.{Option}
 use Rattle.strand_inputs.specs.Settings.{Settings}
 use Rattle.strand_inputs.specs.declared.mode.Mode.{Mode}
@@ -62,3 +62,8 @@ state_of t dispatched buffered flight durable = record {
 abbrev pub persists_unmarked : List Bool → Option Event → List Bool
 persists_unmarked marks None = marks
 persists_unmarked marks (Some e) = if is_persist e then marks ++ false ∷ [] else marks
+
+-- the marks with one more set, if any
+abbrev pub marked_at : List Bool → Option ℕ → List Bool
+marked_at marks None = marks
+marked_at marks (Some k) = slice_set marks k true

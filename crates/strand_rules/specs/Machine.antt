@@ -1,5 +1,5 @@
 -- The machine as contracts see it, and what a step leaves of it and of the bank.
-use Rattle.std.specs.Prelude.{◌≡◌, ℕ, ◌+◌, Bool, List, length, map, slice_get, Some, None, Ok, Err}
+use Rattle.std.specs.Prelude.{◌≡◌, ℕ, ◌+◌, Bool, true, false, List, length, map, slice_get, Some, None, Ok, Err}
 use Rattle.std.specs.declared.option.Option.{Option}
 use Rattle.strand_image.specs.Parts.{Parts}
 use Rattle.strand_inputs.specs.Settings.{Settings}
@@ -11,12 +11,12 @@ use Rattle.strand_exec.specs.Plan.{effect_of}
 use Rattle.strand_exec.specs.Effects.{HasRegister, IsAligned}
 use Rattle.strand_exec.specs.declared.effect.Effect.{Effect}
 use Rattle.strand_exec.specs.declared.life.Life.TheVariants.{Running}
-use Rattle.strand_events.specs.Trace.{persists_of}
+use Rattle.strand_events.specs.Trace.{event_is, is_persist, persists_of}
 use Rattle.strand_rules.specs.declared.turn.Turn.{Turn}
 use Rattle.strand_rules.specs.declared.turn.Turn.TheVariants.{Done, Bubble, Fault}
 use Rattle.strand_modules.specs.Bank.{BankSeen, Stores, store_refused, front_written}
 use Rattle.strand_rules.specs.Images.{persistent_image}
-use Rattle.strand_rules.specs.Cycle.{Request, State, turn, after, request_of, start_at, durable_set}
+use Rattle.strand_rules.specs.Cycle.{Request, State, front, turn, after, request_of, start_at, durable_set}
 use Rattle.strand_rules.specs.Visible.{Program}
 
 -- a machine's settings, program and state, how many steps it made, and for how many it has room
@@ -90,6 +90,11 @@ pub record Runs (m : Machine) (n : ℕ) (effect : Effect) : Type 0 where
   pub effect_is : effect ≡ effect_of core m.program.code m.program.sizes
   pub register : HasRegister effect
   pub aligned : IsAligned m.program.sizes effect
+
+-- The first item of core n's queue is this persist, by its event number, or it is no persist.
+abbrev pub FrontIs : Settings → State → ℕ → Option ℕ → Type 0
+FrontIs g s n None = (k : ℕ) × (front g s n ≡ Some k) × (event_is is_persist s.now.trace k ≡ false)
+FrontIs g s n (Some k) = (front g s n ≡ Some k) × (event_is is_persist s.now.trace k ≡ true)
 
 -- the machine with another state after one step more
 abbrev pub made_to : Machine → State → Machine

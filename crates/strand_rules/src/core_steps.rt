@@ -17,9 +17,9 @@ use strand_events::Event;
 use strand_exec::{Effect, Life, Plan, apply, asked};
 
 impl PlainMachine {
-    // What the next instruction of core n does, if the core runs.
+    /// What the next instruction of core n does; none where the core has ended or isn't there.
     #[tactic(auto, unfolding(strand_exec::specs::Plan::plan_of))]
-    fn next_effect(&self, n: u32) -> Option<Effect>
+    pub fn next_effect(&self, n: u32) -> Option<Effect>
         ensures plan { option_map asked result ≡ next_plan self.now.program self.now.state.now n }
         ensures runs { IfSome result (Runs self.now n) }
     {
@@ -54,8 +54,9 @@ impl PlainMachine {
         Turn::Done
     }
 
-    // Core n, which runs, retires its instruction.
-    fn retire(&mut self, n: u32, effect: Effect, plan: Plan, event: Option<Event>)
+    /// Core n, which runs, retires its instruction, which makes this event: a step that is done. It takes
+    /// constant time, and it doesn't ask whether the rules let the step be done.
+    pub fn retire(&mut self, n: u32, effect: Effect, plan: Plan, event: Option<Event>)
         requires room { self.old.made < self.old.steps }
         requires runs { Runs self.old n effect }
         requires plan { plan ≡ asked effect }
@@ -99,8 +100,8 @@ impl PlainMachine {
         turn
     }
 
-    // The event that core n's instruction makes.
-    fn next_event(&self, n: u32, plan: Plan) -> Option<Event>
+    /// The event that an instruction of core n with this plan makes, if any.
+    pub fn next_event(&self, n: u32, plan: Plan) -> Option<Event>
         requires core { n < length self.now.state.now.cores }
         requires placed { IsPlaced self.now.program.sizes plan }
         ensures event { result ≡ event_of n self.now.state.now.memory plan }

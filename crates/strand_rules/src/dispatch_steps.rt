@@ -1,9 +1,10 @@
 // The steps of a core's queue.
-ghost use Rattle.std.specs.Prelude.{◌≡◌, ◌<◌, ◌+◌, ◌-◌, ◌^◌, true, IfSome, Some, if◌then◌else◌, length, slice_index, slice_set, vec_capacity};
-ghost use Rattle.strand_events.specs.Trace.{strand_number};
+ghost use Rattle.std.specs.Prelude.{◌≡◌, ◌<◌, ◌+◌, ◌-◌, ◌^◌, IfSome, Some, None, if◌then◌else◌, length, slice_index, slice_set, vec_capacity};
+ghost use Rattle.strand_events.specs.Trace.{event_is, is_persist, strand_number};
 ghost use Rattle.strand_inputs.specs.declared.step.Step.TheVariants.{Dispatch};
 ghost use Rattle.strand_rules.specs.Cycle.{turn, front, ring_use, buffer_of, buffer_busy, item_turn, item_after, IsReached};
-ghost use Rattle.strand_rules.specs.Machine.{stepped, made_to};
+ghost use Rattle.strand_rules.specs.Looking.{marked_at};
+ghost use Rattle.strand_rules.specs.Machine.{FrontIs, stepped, made_to};
 
 use crate::PlainMachine;
 use crate::dispatch_rules::{buffer_busy, item_at, ring_use};
@@ -72,17 +73,28 @@ impl PlainMachine {
         Turn::Done
     }
 
-    // Core n dispatches its item k.
-    fn dispatch(&mut self, n: u32, k: usize)
+    // The item, if it is a persist.
+    fn persist_in(&self, k: usize) -> Option<usize>
+        requires { k < length self.now.state.now.trace }
+        ensures { result ≡ (if event_is is_persist self.now.state.now.trace k then Some k else None) }
+    {
+        if is_persist_at(self.trace.events(), k) {
+            Some(k)
+        } else {
+            None
+        }
+    }
+
+    /// Core n dispatches the first item of its queue: a step that is done, in constant time. The item is
+    /// this persist, by its event number, or none.
+    pub fn dispatch(&mut self, n: u32, persist: Option<usize>)
         requires room { self.old.made < self.old.steps }
         requires core { n < length self.old.state.now.cores }
-        requires within { k < length self.old.state.now.trace }
-        requires front { front self.old.config self.old.state n ≡ Some k }
-        requires reached { IsReached self.old.config self.old.program (item_after self.old.state n (Some k)) }
-        ensures { self.new ≡ made_to self.old (item_after self.old.state n (Some k)) }
+        requires front { FrontIs self.old.config self.old.state n persist }
+        requires reached { IsReached self.old.config self.old.program (item_after self.old.state n (front self.old.config self.old.state n)) }
+        ensures { self.new ≡ made_to self.old (item_after self.old.state n (front self.old.config self.old.state n)) }
     {
-        let persist = is_persist_at(self.trace.events(), k);
-        mark_item(&mut self.dispatched, &mut self.buffered, n, k, persist);
+        mark_item(&mut self.dispatched, &mut self.buffered, n, persist);
         self.made += 1;
     }
 
@@ -98,7 +110,8 @@ impl PlainMachine {
         };
         let turn = self.item_turn(n, k);
         if let Turn::Done = turn {
-            self.dispatch(n, k);
+            let persist = self.persist_in(k);
+            self.dispatch(n, persist);
         } else {
             self.made += 1;
         }
@@ -106,17 +119,17 @@ impl PlainMachine {
     }
 }
 
-// One more item of core n, event k, is dispatched, and buffered where it is a persist.
-fn mark_item(dispatched: &mut Vec<u32>, buffered: &mut Vec<bool>, n: u32, k: usize, persist: bool)
+// One more item of core n is dispatched, and buffered where it is a persist.
+fn mark_item(dispatched: &mut Vec<u32>, buffered: &mut Vec<bool>, n: u32, persist: Option<usize>)
     requires core { n < length dispatched.old.items }
     requires few { slice_index dispatched.old.items n < 2 ^ 32 - 1 }
-    requires event { k < length buffered.old.items }
+    requires event { IfSome persist (λ k. k < length buffered.old.items) }
     ensures dispatched { dispatched.new.items ≡ slice_set dispatched.old.items n (slice_index dispatched.old.items n + 1) }
-    ensures buffered { buffered.new.items ≡ (if persist then slice_set buffered.old.items k true else buffered.old.items) }
+    ensures buffered { buffered.new.items ≡ marked_at buffered.old.items persist }
     ensures room { vec_capacity buffered.new ≡ vec_capacity buffered.old }
 {
     dispatched[n as usize] += 1;
-    if persist {
+    if let Some(k) = persist {
         buffered[k] = true;
     }
 }

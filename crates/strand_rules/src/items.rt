@@ -6,8 +6,8 @@ ghost use Rattle.strand_rules.specs.Cycle.{is_item};
 use strand_events::Event;
 use strand_inputs::Mode;
 
-// Whether a core's queue carries the event.
-pub(crate) fn is_item(mode: Mode, event: Event) -> bool
+/// Whether a core's queue carries the event.
+pub fn is_item(mode: Mode, event: Event) -> bool
     ensures { result ≡ is_item mode event }
 {
     match mode {

@@ -5,7 +5,7 @@ ghost use Rattle.strand_exec.specs.Core.{Core};
 ghost use Rattle.strand_exec.specs.Memory.{Memory};
 ghost use Rattle.strand_events.specs.declared.event.Event.{Event};
 ghost use Rattle.strand_events.specs.Trace.{is_persist, event_is, word_at, value_at};
-ghost use Rattle.strand_events.specs.Places.{place_of, address_of};
+ghost use Rattle.strand_base.specs.Places.{place_of, address_of};
 ghost use Rattle.strand_events.specs.Order.{Set, IsDownwardClosed, HoldsJoined};
 ghost use Rattle.strand_modules.specs.Bank.{BankSeen};
 ghost use Rattle.strand_rules.specs.Images.{persistent_image};

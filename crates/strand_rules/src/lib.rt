@@ -16,6 +16,7 @@ mod tests;
 mod turn;
 mod write_steps;
 
+pub use items::is_item;
 pub use laws::{
     durable_sets_are_allowed, images_follow_the_trace, parts_are_kept, visible_runs_are_kept,
 };

@@ -1,9 +1,12 @@
 ghost use Rattle.std.specs.Prelude.{◌≡◌, ◌<◌, ◌≤◌, IfOk, Some, All, map, length, replicate, slice_get};
 ghost use Rattle.strand_exec.specs.Core.{fresh};
 ghost use Rattle.strand_inputs.specs.Schedule.{IsBelow};
+ghost use Rattle.strand_events.specs.Fits.{AllFit};
 ghost use Rattle.strand_events.specs.Order.{HoldsJoined, IsDownwardClosed};
 ghost use Rattle.strand_events.specs.Places.{LieIn};
-ghost use Rattle.strand_rules.specs.Cycle.{durable_set};
+ghost use Rattle.strand_modules.specs.Seen.{bank_seen};
+ghost use Rattle.strand_rules.specs.Cycle.{IsReached, durable_set};
+ghost use Rattle.strand_rules.specs.Kept.{IsKept};
 ghost use Rattle.strand_rules.specs.Machine.{machine_at, made_to, durable_persists, SameSetup, StandsOn, Steps};
 
 use crate::turn::{Cause, Turn};
@@ -17,7 +20,9 @@ use strand_inputs::{Config, Step};
 use strand_modules::ModuleBank;
 
 /// The machine that runs an image under a schedule, one step at a time, by the cycle rules
-/// (docs/cycle.md). It takes no memory after it is made, and looks back over its trace.
+/// (docs/cycle.md). It takes no memory after it is made, and `step` looks back over its trace. The calls
+/// that change the state as a step that is done does, `retire`, `dispatch`, `send` and `write`, don't:
+/// another machine may call them once it has decided in its own way.
 #[derive(Drop)]
 pub struct PlainMachine {
     pub(crate) config: Config,
@@ -143,8 +148,35 @@ impl PlainMachine {
         FlatMemory::copy(alloc, &memory.volatile, &memory.persistent)
     }
 
-    // A step that changes nothing but the count of steps.
-    pub(crate) fn bubble(&mut self, cause: Cause) -> Turn
+    /// The settings.
+    pub fn config(&self) -> Config
+        ensures { result ≡ self.now.config }
+    {
+        self.config
+    }
+
+    /// How many words the two data regions have.
+    pub fn sizes(&self) -> Sizes
+        ensures { result ≡ self.now.program.sizes }
+    {
+        self.sizes
+    }
+
+    /// What holds of every machine: a run reaches its state (`reached`), its lists fit its cores, its trace
+    /// and its settings (`kept`), a trace can have its events (`fits`), and a core has a buffer (`buffers`).
+    pub fn keeps(&self)
+        ensures reached { IsReached self.now.config self.now.program self.now.state }
+        ensures kept { IsKept self.now }
+        ensures fits { AllFit self.now.state.now.trace }
+        ensures buffers { 0 < self.now.config.buffers }
+    {
+        let config = self.config;
+        let _buffers = config.buffers;
+        let _events = self.trace.events();
+    }
+
+    /// A step that changes nothing but the count of steps: a bubble of this cause.
+    pub fn bubble(&mut self, cause: Cause) -> Turn
         requires { self.old.made < self.old.steps }
         ensures turn { result ≡ Turn.Bubble cause }
         ensures machine { self.new ≡ made_to self.old self.old.state }
@@ -159,10 +191,11 @@ impl PlainMachine {
     pub fn step(&mut self, step: Step, bank: &mut ModuleBank) -> Turn
         requires room { self.old.made < self.old.steps }
         requires step { IsBelow (length self.old.state.now.cores) self.old.config.buffers step }
-        requires bank { self.old.program.sizes.persistent ≤ bank.old.size }
-        ensures step { Steps self.old self.new bank.old bank.new step result }
-        ensures setup { SameSetup self.old self.new bank.old bank.new }
-        ensures stands { StandsOn self.old.program.sizes.persistent self.old.state self.new.state bank.old bank.new }
+        requires bank { self.old.program.sizes.persistent ≤ (bank_seen holds bank.old).size }
+        ensures step { Steps self.old self.new (bank_seen holds bank.old) (bank_seen holds bank.new) step result }
+        ensures setup { SameSetup self.old self.new (bank_seen holds bank.old) (bank_seen holds bank.new) }
+        ensures stands { StandsOn self.old.program.sizes.persistent self.old.state self.new.state
+            (bank_seen holds bank.old) (bank_seen holds bank.new) }
     {
         prove!(self.made < self.steps);
         match step {

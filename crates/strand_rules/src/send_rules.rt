@@ -4,7 +4,7 @@ ghost use Rattle.strand_base.specs.Counting.{count_below};
 ghost use Rattle.strand_events.specs.Trace.{event_is, is_persist, word_at, value_at};
 ghost use Rattle.strand_events.specs.Order.{held};
 ghost use Rattle.strand_rules.specs.Cycle.{is_lower, epoch_waits, word_waits, is_eligible, eligible, older_waits};
-ghost use Rattle.strand_events.specs.Places.{place_of};
+ghost use Rattle.strand_base.specs.Places.{place_of};
 ghost use Rattle.strand_rules.specs.Looking.{settings_of, state_of};
 
 use crate::dispatch_rules::same_strand;

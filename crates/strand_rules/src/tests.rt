@@ -5,6 +5,7 @@ use super::*;
 use std::alloc::Global;
 use std::process::Abort;
 use std::test::*;
+use strand_base::PmModule;
 use strand_image::Image;
 use strand_inputs::{Config, Mode, Step, read_schedule};
 use strand_modules::{ModuleBank, RamModule};
@@ -52,24 +53,30 @@ fn is_below(step: Step, cores: usize, buffers: u32) -> bool
     }
 }
 
+// Makes a step that the machine has room, a core and a buffer for, and the bank the words.
+fn make(machine: &mut PlainMachine, step: Step, bank: &mut ModuleBank) -> Result<Turn, Fail> {
+    if machine.made() >= machine.trace().room() as u64 {
+        return Err("no room".into());
+    }
+    if !is_below(step, machine.cores().len(), machine.config().buffers) {
+        return Err("no such core or buffer".into());
+    }
+    if (machine.sizes().persistent as u64) > bank.words() {
+        return Err("a small bank".into());
+    }
+    Ok(machine.step(step, bank))
+}
+
 // Makes the steps, and writes each turn that isn't Done, with its step's number.
 fn play(
     alloc: Global,
     machine: &mut PlainMachine,
-    buffers: u32,
     steps: &[Step],
     bank: &mut ModuleBank,
-) -> Result<String, Fail>
-    requires room { machine.old.made + length steps.now ≤ machine.old.steps }
-    requires buffers { buffers ≡ machine.old.config.buffers }
-    requires bank { machine.old.program.sizes.persistent ≤ bank.old.size }
-{
+) -> Result<String, Fail> {
     let mut text = String::new(alloc);
     for (k, step) in steps.iter().enumerate() {
-        if !is_below(*step, machine.cores().len(), buffers) {
-            return Err("no such core or buffer".into());
-        }
-        let turn = machine.step(*step, bank);
+        let turn = make(machine, *step, bank)?;
         if turn != Turn::Done {
             write!(text, "{} {turn:?}, ", k + 1)?;
         }
@@ -90,13 +97,6 @@ fn image_of(alloc: Global, entries: &[u32], code: &[u32]) -> Result<Image, Fail>
     Ok(image.ok().ok_or("an image")?)
 }
 
-// A bank of one module of three words, whose call of that number fails (0 is none).
-fn bank_of(alloc: Global, failing: u64) -> Result<ModuleBank, Fail> {
-    let mut module = RamModule::new(alloc, 3)?;
-    module.fail_at(failing)?;
-    Ok(ModuleBank::single(module))
-}
-
 // Runs a schedule. Writes the turns that aren't Done, the persists' marks, how many retired and the
 // persistent words that the cores see.
 fn outcome(
@@ -106,7 +106,7 @@ fn outcome(
     bank: &mut ModuleBank,
     schedule: &str,
 ) -> Result<String, Fail> {
-    if schedule.len() > 1000 || bank.words() < image.persistent().len() as u64 {
+    if schedule.len() > 1000 {
         return Err("too long".into());
     }
     let cores = image.entries().len() as u32;
@@ -114,7 +114,7 @@ fn outcome(
     let schedule = schedule.ok().ok_or("a schedule")?;
     let steps = schedule.steps();
     let mut machine = PlainMachine::new(alloc, &config, image, steps.len() as u64)?;
-    let mut text = play(alloc, &mut machine, config.buffers, steps, bank)?;
+    let mut text = play(alloc, &mut machine, steps, bank)?;
     for durable in machine.durable() {
         text.push(if *durable { '1' } else { '0' })?;
     }
@@ -124,7 +124,8 @@ fn outcome(
     Ok(text)
 }
 
-// Compares what comes of each schedule.
+// Compares what comes of each schedule on one module of three words, whose call of that number fails (0
+// is none).
 fn rows(
     rt: &impl Abort,
     alloc: Global,
@@ -134,7 +135,11 @@ fn rows(
     rows: &[(&str, &str)],
 ) -> Result<(), Fail> {
     for (schedule, wanted) in rows {
-        let mut bank = bank_of(alloc, failing)?;
+        let mut module = RamModule::new(alloc, 3)?;
+        module.fail_at(failing)?;
+        let mut modules: Vec<Box<dyn PmModule>> = Vec::new(alloc);
+        modules.push(Box::new(alloc, module)?)?;
+        let mut bank = ModuleBank::new(alloc, modules).ok().ok_or("a bank")?;
         let text = outcome(alloc, config, image, &mut bank, schedule)?;
         assert_eq!(rt; text.as_str(), *wanted, "{schedule}");
     }

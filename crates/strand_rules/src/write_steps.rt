@@ -1,8 +1,10 @@
 // The steps of the buffers and of the controller.
 ghost use Rattle.std.specs.Prelude.{◌≡◌, ◌<◌, ◌≤◌, ◌==◌, true, false, IfSome, Some, length, slice_get};
+ghost use Rattle.strand_base.specs.Counting.{count_below};
 ghost use Rattle.strand_events.specs.Trace.{event_is, is_persist};
 ghost use Rattle.strand_events.specs.Order.{held};
 ghost use Rattle.strand_inputs.specs.declared.step.Step.TheVariants.{Send, Write};
+ghost use Rattle.strand_modules.specs.Seen.{bank_seen};
 ghost use Rattle.strand_rules.specs.Cycle.{turn, eligible, send_after, older_waits, request_of, write_after, IsReached};
 ghost use Rattle.strand_rules.specs.Machine.{stepped, made_to, Steps};
 
@@ -39,8 +41,8 @@ impl PlainMachine {
         self.flight.len() == config.flight as usize
     }
 
-    // Persist p, which is buffered, is sent.
-    fn send(&mut self, p: usize)
+    /// Persist p, by its event number, is sent, which is buffered: a step that is done, in constant time.
+    pub fn send(&mut self, p: usize)
         requires room { self.old.made < self.old.steps }
         requires flight { length self.old.state.flight < self.old.config.flight }
         requires waits { held self.old.state.buffered p ≡ true }
@@ -87,6 +89,14 @@ impl PlainMachine {
         older_waits(self.trace.events(), &self.flight, j as usize, p)
     }
 
+    // The number of persist p among the persists.
+    fn persist_number(&self, p: usize) -> u32
+        requires { event_is is_persist self.now.state.now.trace p ≡ true }
+        ensures { result ≡ count_below p (event_is is_persist self.now.state.now.trace) }
+    {
+        persist_number(self.trace.events(), p) as u32
+    }
+
     // What the request of persist p stores, and where.
     fn request(&self, p: usize) -> (u64, u64)
         requires { event_is is_persist self.now.state.now.trace p ≡ true }
@@ -97,26 +107,27 @@ impl PlainMachine {
         request(self.trace.events(), p)
     }
 
-    // Persist p, of the request at place j, is durable.
-    fn write(&mut self, j: u32, p: usize)
+    /// Event p is durable, the persist of the request at place j, which has this number among the
+    /// persists: a step that is done. It goes over the requests in flight once.
+    pub fn write(&mut self, j: u32, p: usize, number: u32)
         requires room { self.old.made < self.old.steps }
         requires request { slice_get self.old.state.flight j ≡ Some p }
         requires persist { event_is is_persist self.old.state.now.trace p ≡ true }
+        requires number { number ≡ count_below p (event_is is_persist self.old.state.now.trace) }
         requires reached { IsReached self.old.config self.old.program (write_after self.old.state j (Some p)) }
         ensures { self.new ≡ made_to self.old (write_after self.old.state j (Some p)) }
     {
-        let number = persist_number(self.trace.events(), p);
         self.flight.remove(j as usize);
         self.durable[p] = true;
-        self.persisted[number] = true;
+        self.persisted[number as usize] = true;
         self.made += 1;
     }
 
     // The bank stores the request at place j, unless an older one has its word.
     pub(crate) fn step_write(&mut self, j: u32, bank: &mut ModuleBank) -> Turn
         requires room { self.old.made < self.old.steps }
-        requires bank { self.old.program.sizes.persistent ≤ bank.old.size }
-        ensures { Steps self.old self.new bank.old bank.new (Write j) result }
+        requires bank { self.old.program.sizes.persistent ≤ (bank_seen holds bank.old).size }
+        ensures { Steps self.old self.new (bank_seen holds bank.old) (bank_seen holds bank.new) (Write j) result }
     {
         prove!(self.made < self.steps);
         let Some(p) = self.request_at(j) else {
@@ -126,9 +137,10 @@ impl PlainMachine {
             return self.bubble(Cause::OlderWaits);
         }
         let (place, value) = self.request(p);
+        let number = self.persist_number(p);
         match bank.store(place, value) {
             Ok(()) => {
-                self.write(j, p);
+                self.write(j, p, number);
                 Turn::Done
             }
             Err(AtModule { module }) => Turn::Fault { module },

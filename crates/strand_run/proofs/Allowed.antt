@@ -8,7 +8,7 @@ use Rattle.strand_exec.specs.Core.{fresh}
 use Rattle.strand_inputs.specs.declared.step.Step.{Step}
 use Rattle.strand_events.specs.declared.event.Event.{Event}
 use Rattle.strand_events.specs.Order.{Set, IsDownwardClosed, HoldsJoined, image}
-use Rattle.strand_events.specs.Places.{place_of, address_of}
+use Rattle.strand_base.specs.Places.{place_of, address_of}
 use Rattle.strand_judge.specs.Judged.{Agrees, IsJudged}
 use Rattle.strand_judge.specs.Words.{crash_of}
 use Rattle.strand_judge.proofs.Within.{yes_within}

@@ -1,6 +1,6 @@
 -- A run on a bank: the fill, the steps, the read at the end.
 use Rattle.std.proofs.Common.{◌≡◌, ℕ, suc, zero, ◌+◌, ◌-◌, ◌%◌, ◌≤◌, List, [], ◌∷◌, ◌++◌, length, take, drop, refl, sym, ap, ◌∙◌, arith, inl, inr, subst}
-use Rattle.std.specs.Prelude.{None, Some, Ok, IfSome, OnSome}
+use Rattle.std.specs.Prelude.{None, Some, Ok, Err, Result, IfSome, OnSome, OnErr}
 use Rattle.std.specs.Option.{option_map}
 use Rattle.std.specs.declared.option.Option.{Option}
 use Rattle.std.proofs.lemmas.List.{take_all}
@@ -10,8 +10,11 @@ use Rattle.strand_inputs.specs.Settings.{Settings}
 use Rattle.strand_inputs.specs.declared.step.Step.{Step}
 use Rattle.strand_events.specs.Order.{held}
 use Rattle.strand_modules.specs.Bank.{BankSeen, Keeps, Fills, store_refused, front_written, loads_accepted, stores_accepted}
+use Rattle.strand_modules.specs.Reading.{ReadFails}
+use Rattle.strand_modules.specs.declared.faults.ReadAllFault.TheVariants.{Module}
+use Rattle.strand_modules.specs.declared.refusals.AtModule.{AtModule}
 use Rattle.strand_modules.proofs.Counted.{loads_none, stores_none, stores_again}
-use Rattle.strand_modules.proofs.Fronts.{keeps_trans, refuses_after}
+use Rattle.strand_modules.proofs.Fronts.{keeps_same, keeps_trans, refuses_after}
 use Rattle.strand_rules.specs.declared.turn.BubbleAt.{BubbleAt}
 use Rattle.strand_rules.specs.declared.turn.StepFault.{StepFault}
 use Rattle.strand_rules.specs.Cycle.{State, after, durable_set}
@@ -23,13 +26,12 @@ use Rattle.strand_rules.proofs.Images.{image_begins, image_length}
 use Rattle.strand_rules.proofs.Seen.{run_seen}
 use Rattle.strand_run.specs.declared.running.Run.{Run}
 use Rattle.strand_run.specs.declared.running.RunEnd.TheVariants.{ReadRefused, Told}
-use Rattle.strand_run.specs.declared.reading.ReadFault.TheVariants.{Module}
 use Rattle.strand_run.specs.Fault.{ran, RefusedBy}
 use Rattle.strand_run.specs.Inputs.{Inputs, state_after, bubbles_after, writes_after}
 use Rattle.strand_run.specs.Outcome.{StandsAfter, RanAndRead, MayLeave, StandsAfterSome, Tells, RunsTo, view_of}
-use Rattle.strand_run.specs.Reading.{ReadFails}
 use Rattle.strand_run.specs.Seen.{visible_after, durable_after, image_after, shown, view_after, AreHeld}
 use Rattle.strand_run.specs.Stepping.{MakesSteps, Refused, steps_made}
+use Rattle.strand_run.proofs.Made.{same_counts}
 
 -- what the programs saw is the visible run
 pub seen : (u : Inputs) (steps : List Step) → (state_after u steps).now ≡ visible_after u steps
@@ -57,6 +59,11 @@ untouched u bank = record {
   stands = inl refl;
   accepted = record { stores = 0; loads = 0; few_stores = omega arith; few_loads = omega arith; accepts = stores_none bank.accepted ∙ loads_none (stores_accepted 0 bank.accepted) };
 }
+
+-- no memory before anything was run
+pub nothing_run : {T E : Type 0} (u : Inputs) (bank : BankSeen) (result : Result T E) → OnErr result (Keeps bank bank × MayLeave u bank bank)
+nothing_run u bank (Ok x) = tt
+nothing_run u bank (Err e) = (keeps_same bank, untouched u bank)
 
 -- a report's view by the visible run
 same_view : (stop stop' : ℕ) (s s' : State) (v : Visible) (bubbles bubbles' : List BubbleAt) (words : List ℕ) (fault : Option StepFault) → stop ≡ stop' → s ≡ s' → bubbles ≡ bubbles' → s'.now ≡ v
@@ -108,7 +115,7 @@ module _ (u : Inputs) (m0 m1 : Machine) (b0 b1 b2 b3 : BankSeen) (start : m0 ≡
     could (Some f) refused = subst (λ (n : ℕ). CanFail u.config (program_of u.image) (start_of u.image) u.steps n f) fills.kept.count refused.0
 
     refused_by : (f : Option StepFault) → Refused (machine_at u.config u.image (length u.steps)) u.steps b1 b2 f → RefusedBy store_refused b0 b2 (option_map (λ (x : StepFault). x.«module») f)
-    refused_by None refused = refused ∙ fills.accepted
+    refused_by None refused = refused ∙ same_counts b0 b1 fills.accepted fills.quiet
     refused_by (Some f) refused = refuses_after store_refused b0 b1 b2 f.«module» fills.kept fills.accepted refused.1
 
     within : (f : StepFault) → Refused (machine_at u.config u.image (length u.steps)) u.steps b1 b2 (Some f) → f.step - 1 ≤ length u.steps
@@ -125,46 +132,46 @@ module _ (u : Inputs) (m0 m1 : Machine) (b0 b1 b2 b3 : BankSeen) (start : m0 ≡
       ran3 loads counts = (stands3, counts ∙ ap (loads_accepted loads) accepted2)
 
       -- the words were read
-      pub told : (r : Run) → r.machine ≡ m1 → r.bubbles.items ≡ bubbles → r.fault ≡ fault → b3.refused ≡ b2.refused
-          → b3.accepted ≡ loads_accepted (length u.image.persistent) b2.accepted → length r.held.items ≡ length u.image.persistent
-          → IfSome b2.told (λ all. r.held.items ≡ take (length u.image.persistent) all) → RunsTo u b0 b3 (Told r)
-      told r machine bubbles_are is quiet counts count words =
+      pub told : (r : Run) → r.machine.machine ≡ m1 → r.bubbles.items ≡ bubbles → r.fault ≡ fault → b3.refused ≡ b2.refused → b3.faults ≡ b2.faults
+          → b3.accepted ≡ loads_accepted (length u.image.persistent) b2.accepted → length r.held ≡ length u.image.persistent
+          → IfSome b2.told (λ all. r.held ≡ take (length u.image.persistent) all) → RunsTo u b0 b3 (Told r)
+      told r machine bubbles_are is unrefused quiet counts count words =
           record {
             fault = ran fault None;
             allowed = (could fault again.refused, tt);
-            shown = record { between = b2; kept_first = kept2; kept_second = kept; first = refused_by fault again.refused; second = quiet };
+            shown = record { between = b2; kept_first = kept2; kept_second = kept; first = refused_by fault again.refused; second = same_counts b2 b3 unrefused quiet };
             kept = kept3;
             leaves = ran3 (length u.image.persistent) counts;
             is = (ap (λ (f : Option StepFault). ran f None) (sym is), tells);
           }
         where
-          made_is : r.machine.made ≡ length (steps_made fault u.steps)
+          made_is : r.machine.machine.made ≡ length (steps_made fault u.steps)
           made_is = omega (arith, ap (λ (m : Machine). m.made) machine, again.made)
 
-          state_is : r.machine.state ≡ state_after u (steps_made fault u.steps)
+          state_is : r.machine.machine.state ≡ state_after u (steps_made fault u.steps)
           state_is = ap (λ (m : Machine). m.state) machine ∙ again.state
 
-          view_is : view_of r ≡ view_after u (steps_made fault u.steps) r.held.items r.fault
+          view_is : view_of r ≡ view_after u (steps_made fault u.steps) r.held r.fault
           view_is =
-              same_view r.machine.made (length (steps_made fault u.steps)) r.machine.state (state_after u (steps_made fault u.steps)) (visible_after u (steps_made fault u.steps)) r.bubbles.items
-              (bubbles_after u (steps_made fault u.steps)) r.held.items r.fault made_is state_is (bubbles_are ∙ again.bubbles_are) (seen u (steps_made fault u.steps))
+              same_view r.machine.machine.made (length (steps_made fault u.steps)) r.machine.machine.state (state_after u (steps_made fault u.steps)) (visible_after u (steps_made fault u.steps)) r.bubbles.items
+              (bubbles_after u (steps_made fault u.steps)) r.held r.fault made_is state_is (bubbles_are ∙ again.bubbles_are) (seen u (steps_made fault u.steps))
 
           tells : Tells u b0 r
           tells = record {
             size = ap (λ (m : Machine). m.program.sizes.persistent) machine ∙ ap (λ (p : Program). p.sizes.persistent) again.program;
-            view = subst (λ (f : Option StepFault). view_of r ≡ view_after u (steps_made f u.steps) r.held.items r.fault) (sym is) view_is;
-            held = subst (λ (f : Option StepFault). AreHeld u (steps_made f u.steps) b0 r.held.items) (sym is) (record {
+            view = subst (λ (f : Option StepFault). view_of r ≡ view_after u (steps_made f u.steps) r.held r.fault) (sym is) view_is;
+            held = subst (λ (f : Option StepFault). AreHeld u (steps_made f u.steps) b0 r.held) (sym is) (record {
               count = count;
-              words = held_is b0.told b2.told (image_after u (steps_made fault u.steps)) r.held.items (length u.image.persistent)
+              words = held_is b0.told b2.told (image_after u (steps_made fault u.steps)) r.held (length u.image.persistent)
                   (image_length u.image.persistent (visible_after u (steps_made fault u.steps)).trace (durable_after u (steps_made fault u.steps))) stands2 words;
             });
           }
 
-      -- module n refused the read
-      pub untold : (n : ℕ) → ReadFails b2 b3 (length u.image.persistent) (Module n) → RunsTo u b0 b3 (ReadRefused n)
-      untold n (i, lt, holder, counts, refuses) =
+      -- a module refused the read
+      pub untold : (e : AtModule) → ReadFails b2 b3 (length u.image.persistent) (Module e) → RunsTo u b0 b3 (ReadRefused e.«module»)
+      untold e (i, lt, holder, counts, asked, refuses) =
           record {
-            fault = ran fault (Some n);
+            fault = ran fault (Some e.«module»);
             allowed = (could fault again.refused, omega (arith, refuses.exists, kept2.count));
             shown = record { between = b2; kept_first = kept2; kept_second = kept; first = refused_by fault again.refused; second = refuses };
             kept = kept3;

@@ -20,6 +20,7 @@ use Rattle.strand_rules.specs.declared.turn.Turn.{Turn}
 use Rattle.strand_rules.specs.declared.turn.Turn.TheVariants.{Done, Bubble, Fault}
 use Rattle.strand_modules.proofs.Counted.{stores_none, stores_again}
 use Rattle.strand_modules.proofs.Fronts.{keeps_same, keeps_trans, refuses_after}
+use Rattle.strand_run.specs.Fault.{FaultCounts, fault_counts}
 use Rattle.strand_run.specs.Stepping.{MakesSteps, bubbles_in}
 use Rattle.strand_run.proofs.Turned.{run_next, writes_next, bubbles_done, bubbles_bubble}
 
@@ -35,7 +36,7 @@ pub record MadeSteps (old now : Machine) (steps : List Step) (i : ℕ) (bank ban
   pub made : now.made ≡ old.made + i
   pub state : now.state ≡ run old.config old.program old.state (take i steps)
   pub kept : Keeps bank bank'
-  pub same : bank'.refused ≡ bank.refused
+  pub same : fault_counts bank' ≡ fault_counts bank
   pub accepted : bank'.accepted ≡ stores_accepted (writes_of old.config old.program old.state (take i steps)) bank.accepted
   pub stands : StandsOn old.program.sizes.persistent old.state now.state bank bank'
   pub bubbles_are : bubbles ≡ bubbles_in old.config old.program old.state (take i steps)
@@ -59,9 +60,13 @@ made_none m steps bank bubbles e =
       few = rw e (omega arith);
     }
 
-stored_ok : (r : Option Request) (bank bank' : BankSeen) → StoresOk r bank bank' → Keeps bank bank' × (bank'.refused ≡ bank.refused)
-stored_ok None bank bank' e = (subst (λ (b : BankSeen). Keeps bank b) (sym e) (keeps_same bank), ap (λ (b : BankSeen). b.refused) e)
-stored_ok (Some r) bank bank' stores = (stores.kept, stores.accepted)
+-- neither a refusal nor a fault was counted
+pub same_counts : (bank bank' : BankSeen) → bank'.refused ≡ bank.refused → bank'.faults ≡ bank.faults → fault_counts bank' ≡ fault_counts bank
+same_counts bank bank' refused faults = rw (refused, faults) refl
+
+stored_ok : (r : Option Request) (bank bank' : BankSeen) → StoresOk r bank bank' → Keeps bank bank' × (fault_counts bank' ≡ fault_counts bank)
+stored_ok None bank bank' e = (subst (λ (b : BankSeen). Keeps bank b) (sym e) (keeps_same bank), ap fault_counts e)
+stored_ok (Some r) bank bank' stores = (stores.kept, same_counts bank bank' stores.accepted stores.quiet)
 
 stored_counts : (r : Option Request) (bank bank' : BankSeen) → StoresOk r bank bank' → bank'.accepted ≡ stores_accepted (stores_of Done r) bank.accepted
 stored_counts None bank bank' e = ap (λ (b : BankSeen). b.accepted) e ∙ stores_none bank.accepted
@@ -85,7 +90,7 @@ module _ (old m m' : Machine) (steps : List Step) (i : ℕ) (d : Step) (b b' b''
   on = subst (λ (p : Program). StandsOn p.sizes.persistent m.state m'.state b' b'') so.program stands
 
   -- one step more that was done or a bubble
-  made_one : (bubbles' : List BubbleAt) (t : Turn) → turn m.config m.program m.state (get_or steps i d) ≡ t → m' ≡ stepped m (get_or steps i d) → Keeps b' b'' → b''.refused ≡ b'.refused
+  made_one : (bubbles' : List BubbleAt) (t : Turn) → turn m.config m.program m.state (get_or steps i d) ≡ t → m' ≡ stepped m (get_or steps i d) → Keeps b' b'' → fault_counts b'' ≡ fault_counts b'
       → b''.accepted ≡ stores_accepted (stores_of t (stored_by m.state (get_or steps i d))) b'.accepted → bubbles' ≡ bubbles_in old.config old.program old.state (take (i + 1) steps)
       → length bubbles' ≤ i + 1 → MadeSteps old m' steps (i + 1) b b'' bubbles'
   made_one bubbles' t turned is kept same counts bubbles_are few =
@@ -118,7 +123,7 @@ module _ (old m m' : Machine) (steps : List Step) (i : ℕ) (d : Step) (b b' b''
       → more ≡ bubbles ++ bubble ∷ [] → length more ≡ length bubbles + 1 → MadeSteps old m' steps (i + 1) b b'' more
   made_bubble cause bubble more made at pushed long =
       let is = turn_at old m steps i d b b' bubbles so ∙ made.0 in
-      made_one more (Bubble cause) made.0 made.1 (subst (λ (x : BankSeen). Keeps b' x) (sym made.2) (keeps_same b')) (ap (λ (x : BankSeen). x.refused) made.2)
+      made_one more (Bubble cause) made.0 made.1 (subst (λ (x : BankSeen). Keeps b' x) (sym made.2) (keeps_same b')) (ap fault_counts made.2)
       (ap (λ (x : BankSeen). x.accepted) made.2 ∙ stores_none b'.accepted)
       (rw (pushed, at, so.bubbles_are) (sym (bubbles_bubble old.config old.program old.state steps i d cause lt is))) (omega (arith, so.few, long))
 
@@ -168,7 +173,7 @@ made_until old m m' steps i x d b b' b'' bubbles lt so made setup stands =
           stores = rw (one, ← so.state) part.1;
           holder = part.2 ∙ ap (λ (n : ℕ). part.0.place % n) so.kept.count;
         },
-        refuses_after store_refused b b' b'' x so.kept so.same part.3,
+        refuses_after store_refused b b' b'' x so.kept (ap (λ (c : FaultCounts). c.0) so.same) part.3,
       );
       accepted = rw one (part.5 ∙ so.accepted);
       kept = keeps_trans b b' b'' so.kept part.4;

@@ -1,5 +1,5 @@
 -- The course of a run on a bank, by what the bank refuses, and what the bank shows of it.
-use Rattle.std.specs.Prelude.{◌≡◌, ℕ, Some, None}
+use Rattle.std.specs.Prelude.{◌≡◌, ℕ, List, Some, None}
 use Rattle.std.specs.Option.{option_map}
 use Rattle.std.specs.declared.option.Option.{Option}
 use Rattle.strand_modules.specs.Bank.{BankSeen, Keeps, Refuses, fill_refused, store_refused, read_refused}
@@ -13,9 +13,16 @@ pub data Course : Type 0 where
   -- The image was run; the store of a step was refused, if one was, and then the read at the end, if it was.
   ran : (store : Option StepFault) (read : Option ℕ) → Course
 
--- module m refused, if one did
+-- what a bank counted: what each module refused, and its faults
+abbrev pub FaultCounts : Type 0
+FaultCounts = List Refusals × List ℕ
+
+abbrev pub fault_counts : BankSeen → FaultCounts
+fault_counts bank = (bank.refused, bank.faults)
+
+-- module m refused, if one did; else there was neither a refusal nor a fault
 abbrev pub RefusedBy : (Refusals → Refusals) → BankSeen → BankSeen → Option ℕ → Type 0
-RefusedBy count before after None = after.refused ≡ before.refused
+RefusedBy count before after None = fault_counts after ≡ fault_counts before
 RefusedBy count before after (Some m) = Refuses count before after m
 
 -- the stores, and then the reads

@@ -73,13 +73,13 @@ pub record MayLeave (u : Inputs) (before after : BankSeen) : Type 0 where
 
 -- what a report shows of a run
 abbrev pub view_of : Run → View
-view_of r = shown r.machine.made r.machine.state.now r.bubbles.items r.held.items (durable_persists r.machine.state) r.fault
+view_of r = shown r.machine.machine.made r.machine.machine.state.now r.bubbles.items r.held (durable_persists r.machine.machine.state) r.fault
 
 -- What is told of a run: the steps that were made, and the words that were read.
 pub record Tells (u : Inputs) (before : BankSeen) (r : Run) : Type 0 where
-  pub size : r.machine.program.sizes.persistent ≡ length u.image.persistent
-  pub view : view_of r ≡ view_after u (steps_made r.fault u.steps) r.held.items r.fault
-  pub held : AreHeld u (steps_made r.fault u.steps) before r.held.items
+  pub size : r.machine.machine.program.sizes.persistent ≡ length u.image.persistent
+  pub view : view_of r ≡ view_after u (steps_made r.fault u.steps) r.held r.fault
+  pub held : AreHeld u (steps_made r.fault u.steps) before r.held
 
 abbrev pub IsEnd : Inputs → BankSeen → RunEnd → Course → Type 0
 IsEnd u before (FillRefused m) fault = fault ≡ fill m

@@ -14,8 +14,8 @@ use strand_path::{Path, longest};
 use strand_report::{ModuleFault, ModulePhase, RunView, write_run};
 use strand_rules::StepFault;
 
-// The fault of a module that the refused store of a step is.
-fn module_fault(fault: Option<StepFault>) -> Option<ModuleFault>
+/// The fault of a module that the refused store of a step is.
+pub fn module_fault(fault: Option<StepFault>) -> Option<ModuleFault>
     ensures { result ≡ option_map store_fault fault }
 {
     let fault = fault?;
@@ -37,7 +37,7 @@ fn put_report(run: &Run, path: &Path, into: &mut Vec<u8>) -> Result<(), OutOfMem
         trace: run.machine.trace(),
         bubbles: &run.bubbles,
         visible: &visible,
-        held: &run.held,
+        held: run.held.as_slice(),
         durable: run.machine.durable(),
         path,
         fault: module_fault(run.fault),

@@ -4,6 +4,7 @@ ghost use Rattle.strand_judge.specs.Verdicts.{IsVerdict};
 ghost use Rattle.strand_judge.specs.Words.{crash_of};
 ghost use Rattle.strand_report.specs.Trace.{trace_text};
 ghost use Rattle.strand_run.specs.Outcome.{view_of};
+ghost use Rattle.strand_run.specs.Summed.{Sums};
 
 use crate::running::Run;
 use std::alloc::Global;
@@ -11,7 +12,8 @@ use strand_base::OutOfMemory;
 use strand_inputs::Mode;
 use strand_judge::{Verdict, judge};
 use strand_order::build;
-use strand_report::write_trace;
+use strand_path::longest;
+use strand_report::{Summary, count_marked, write_trace};
 
 /// The events of a run and the edges of their graph under this mode, as text (docs/FORMATS.md).
 pub fn trace(alloc: Global, run: &Run, mode: Mode) -> Result<Vec<u8>, OutOfMemory>
@@ -31,7 +33,7 @@ pub fn verdict(
     initial: &[u64],
     crash: &[u64],
 ) -> Result<Verdict, OutOfMemory>
-    requires initial { run.now.machine.program.sizes.persistent ≡ length initial.now }
+    requires initial { run.now.machine.machine.program.sizes.persistent ≡ length initial.now }
     requires crash { length crash.now ≡ length initial.now }
     ensures { IfOk result
         (IsVerdict mode (view_of run.now).trace (crash_of initial.now crash.now)) }
@@ -40,4 +42,30 @@ pub fn verdict(
     let graph = build(alloc, trace, mode)?;
     let joined = trace.joined()?;
     judge(alloc, &graph, &joined, initial, crash)
+}
+
+/// The summary of a run under this mode. The judge is asked about the words that were read at the end, which the modules
+/// hold.
+pub fn summary(
+    alloc: Global,
+    run: &Run,
+    mode: Mode,
+    initial: &[u64],
+) -> Result<Summary, OutOfMemory>
+    requires initial { run.now.machine.machine.program.sizes.persistent ≡ length initial.now }
+    requires held { length run.now.held ≡ length initial.now }
+    ensures { IfOk result (Sums mode (view_of run.now) initial.now) }
+{
+    let trace = run.machine.trace();
+    let graph = build(alloc, trace, mode)?;
+    let path = longest(alloc, &graph)?;
+    let held = run.held.as_slice();
+    let verdict = judge(alloc, &graph, &trace.joined()?, initial, held)?;
+    Ok(Summary {
+        persists: u64::from(trace.persists()),
+        durable: count_marked(run.machine.durable()) as u64,
+        path: path.chain.as_slice().len() as u64,
+        done: run.machine.made().saturating_sub(run.bubbles.len() as u64),
+        verdict,
+    })
 }

@@ -29,10 +29,10 @@ module _ (t : List Event) (e : Event) where
   longer = omega (arith, length-append t (e ∷ []))
 
   -- of the numbers that pass a test there is one more at the end, where the new event passes
-  list_grown : (test old : ℕ → Bool) → ((k : ℕ) → k < length t → test k ≡ old k) → list_below (length (t ++ e ∷ [])) test ≡ (if test (length t) then list_below (length t) old ++ length t ∷ [] else list_below (length t) old)
+  pub list_grown : (test old : ℕ → Bool) → ((k : ℕ) → k < length t → test k ≡ old k) → list_below (length (t ++ e ∷ [])) test ≡ (if test (length t) then list_below (length t) old ++ length t ∷ [] else list_below (length t) old)
   list_grown test old same = rw (longer, list_agree (length t) test old same) refl
 
-  made_kept : (c end : ℕ) → end ≤ length t → made_below (t ++ e ∷ []) c end ≡ made_below t c end
+  pub made_kept : (c end : ℕ) → end ≤ length t → made_below (t ++ e ∷ []) c end ≡ made_below t c end
   made_kept c end le = count_agree end (core_event_is is_persist c (t ++ e ∷ [])) (core_event_is is_persist c t) (λ k lt. core_event_kept t e is_persist c k (omega (arith, lt, le)))
 
   module _ (mode : Mode) where

@@ -26,7 +26,7 @@ core_few t a fit lt =
     let fits = fits_at t a (Join 0) lt fit in
     subst (λ c. c < 8) (sym at) fits.0
 
-alike : (a b : Bool) → (a ≡ true → b ≡ true) → (b ≡ true → a ≡ true) → a ≡ b
+pub alike : (a b : Bool) → (a ≡ true → b ≡ true) → (b ≡ true → a ≡ true) → a ≡ b
 alike true true h k = refl
 alike false false h k = refl
 alike true false h k = absurd (false≢true (h refl))

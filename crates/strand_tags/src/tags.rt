@@ -118,6 +118,7 @@ impl Tags {
             → StandFor self.new (ns ++ noted_as (access core strand word write) made ∷ []) }
         ensures strands { self.new.strands ≡ slice_set self.old.strands core strand }
         ensures made { self.new.made ≡ slice_set self.old.made core made }
+        ensures cores { length self.new.made ≡ length self.new.strands }
         ensures extents { self.new.extents ≡ self.old.extents }
     {
         let slot = self.slot(core, word);

@@ -6,6 +6,7 @@ ghost use Rattle.strand_app.specs.Opening.{OpensTo, inputs_of, names_of};
 ghost use Rattle.strand_app.specs.Running.{MakesOnBank};
 ghost use Rattle.strand_app.specs.Runs.{Comes};
 ghost use Rattle.strand_app.specs.World.{world};
+ghost use Rattle.strand_modules.specs.Seen.{bank_seen};
 
 use crate::command::RunWords;
 use crate::contents::fetch_crash;
@@ -47,7 +48,8 @@ fn open_question<F: Files>(
     Ok(Question { setup, crash })
 }
 
-fn status_of(judged: &Verdict) -> Status
+/// How a call ends that puts this verdict.
+pub fn status_of(judged: &Verdict) -> Status
     ensures { result ≡ verdict_status judged.now }
 {
     match judged {
@@ -57,7 +59,7 @@ fn status_of(judged: &Verdict) -> Status
 }
 
 fn verdict_of(alloc: Global, question: &Question, run: &Run) -> Result<Made, OutOfMemory>
-    requires persistent { run.now.machine.program.sizes.persistent
+    requires persistent { run.now.machine.machine.program.sizes.persistent
         ≡ length question.now.setup.files.image.persistent }
     requires crash { length question.now.crash ≡ length question.now.setup.files.image.persistent }
     ensures { IfOk result (TellsVerdict question.now run.now) }
@@ -84,8 +86,8 @@ fn verdict_on_bank(
     question: &Question,
     bank: &mut ModuleBank,
 ) -> Result<Made, OutOfMemory>
-    requires { AreAsked bank.old.size question.now }
-    ensures { MakesOnBank (inputs_of question.now.setup) bank.old bank.new
+    requires { AreAsked (bank_seen holds bank.old).size question.now }
+    ensures { MakesOnBank (inputs_of question.now.setup) (bank_seen holds bank.old) (bank_seen holds bank.new)
         (PutsVerdict (question_of question.now)) result }
 {
     match run_on_bank(alloc, &question.setup, bank)? {
@@ -102,8 +104,8 @@ pub fn judge_crash<F: Files>(
     files: &mut F,
     bank: &mut ModuleBank,
 ) -> Result<Made, OutOfMemory>
-    ensures { Comes (judge_rule_in words.entry crash.now bank.old)
-        (world (F.seen files.old) bank.old) (world (F.seen files.new) bank.new) result }
+    ensures { Comes (judge_rule_in words.entry crash.now (bank_seen holds bank.old))
+        (world (F.seen files.old) (bank_seen holds bank.old)) (world (F.seen files.new) (bank_seen holds bank.new)) result }
 {
     match open_question(alloc, words, crash, bank.words(), files) {
         Ok(question) => verdict_on_bank(alloc, &question, bank),

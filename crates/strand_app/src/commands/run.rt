@@ -4,6 +4,7 @@ ghost use Rattle.strand_app.specs.Opening.{IsReady, inputs_of};
 ghost use Rattle.strand_app.specs.Running.{MakesOnBank};
 ghost use Rattle.strand_app.specs.Runs.{Comes};
 ghost use Rattle.strand_app.specs.World.{world};
+ghost use Rattle.strand_modules.specs.Seen.{bank_seen};
 
 use crate::command::RunWords;
 use crate::opening::{Setup, open_run};
@@ -16,9 +17,9 @@ use strand_modules::ModuleBank;
 use strand_run::report;
 
 fn report_on_bank(alloc: Global, setup: &Setup, bank: &mut ModuleBank) -> Result<Made, OutOfMemory>
-    requires { IsReady bank.old.size setup.now }
-    ensures { MakesOnBank (inputs_of setup.now) bank.old bank.new
-        (PutsReport (inputs_of setup.now) bank.old) result }
+    requires { IsReady (bank_seen holds bank.old).size setup.now }
+    ensures { MakesOnBank (inputs_of setup.now) (bank_seen holds bank.old) (bank_seen holds bank.new)
+        (PutsReport (inputs_of setup.now) (bank_seen holds bank.old)) result }
 {
     match run_on_bank(alloc, setup, bank)? {
         Ran::Whole { run } => Ok(Made {
@@ -36,8 +37,8 @@ pub fn report_run<F: Files>(
     files: &mut F,
     bank: &mut ModuleBank,
 ) -> Result<Made, OutOfMemory>
-    ensures { Comes (run_rule_in words.entry bank.old)
-        (world (F.seen files.old) bank.old) (world (F.seen files.new) bank.new) result }
+    ensures { Comes (run_rule_in words.entry (bank_seen holds bank.old))
+        (world (F.seen files.old) (bank_seen holds bank.old)) (world (F.seen files.new) (bank_seen holds bank.new)) result }
 {
     match open_run(alloc, words, bank.words(), files) {
         Ok(setup) => report_on_bank(alloc, &setup, bank),

@@ -5,7 +5,8 @@ use Rattle.std.proofs.lemmas.Bool.{cases_eq, cases_order, cases_Bool, both_ways,
 use Rattle.std.proofs.lemmas.List.{length-set, get_or-set_other, get_or-set_same}
 use Rattle.strand_events.specs.declared.event.Event.{Event}
 use Rattle.strand_events.specs.Trace.{passes, is_persist, word_of, value_of, word_in, value_in, word_at, value_at, event_is}
-use Rattle.strand_events.specs.Places.{address_of, place_of, LieIn}
+use Rattle.strand_base.specs.Places.{address_of, place_of}
+use Rattle.strand_events.specs.Places.{LieIn}
 use Rattle.strand_events.proofs.Within.{event_within}
 use Rattle.strand_judge.specs.Judged.{Crash, Offers}
 use Rattle.strand_judge.specs.Words.{crash_of}

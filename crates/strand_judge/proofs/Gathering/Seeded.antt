@@ -4,7 +4,7 @@ use Rattle.std.specs.Prelude.{slice_index, slice_set, replicate, nat_lt, â—Œ==â—
 use Rattle.std.proofs.lemmas.Bool.{cases_eq, cases_lt, both_ways, and_parts, and_from, eqb-true, eq-eqb, ltb-true, lt-ltb}
 use Rattle.strand_events.specs.declared.event.Event.{Event}
 use Rattle.strand_events.specs.Order.{held, is_joined}
-use Rattle.strand_events.specs.Places.{address_of, place_of}
+use Rattle.strand_base.specs.Places.{address_of, place_of}
 use Rattle.strand_judge.specs.Judged.{Crash}
 use Rattle.strand_judge.specs.Words.{crash_of}
 use Rattle.strand_judge.proofs.Gathering.Marked.{marked_is, newly_marked, listed_more, grows_none, grows_both}

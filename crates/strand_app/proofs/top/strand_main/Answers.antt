@@ -44,3 +44,12 @@ returns-clause-sink_fault g c = clause.sink_of _ _ (sound_of _ _) _ _ _ c.run_co
 
 pub returns-clause-memory : goal.returns-clause-memory
 returns-clause-memory g c = λ e. memory_of _ _ _ _ (clause.memory_of _ _ (sound_of _ _) _ _ _ c.run_command.ensures e)
+
+pub returns-clause-no_sink_fault : goal.returns-clause-no_sink_fault
+returns-clause-no_sink_fault g c = clause.no_sink_fault _ _ (sound_of _ _) _ _ _ c.run_command.ensures
+
+pub returns-clause-no_file_fault : goal.returns-clause-no_file_fault
+returns-clause-no_file_fault g c = clause.no_file_fault _ _ (sound_of _ _) _ _ _ c.run_command.ensures
+
+pub returns-clause-no_module_fault : goal.returns-clause-no_module_fault
+returns-clause-no_module_fault g c = clause.no_module_fault _ _ (sound_of _ _) _ _ _ c.run_command.ensures

@@ -1,6 +1,6 @@
 use Rattle.std.proofs.Common.{◌≡◌, ◌+◌, ◌*◌, subst, sym, arith}
 use Rattle.strand_control.specs.declared.request.Request.{Request}
-use Rattle.strand_control.specs.Places.{place_of}
+use Rattle.strand_base.specs.Places.{place_of}
 use Rattle.strand_control.specs.Flight.{Flight, LieInBank}
 use Rattle.strand_control.proofs.Lies.{lies_more}
 use Rattle.strand_control.proofs.tests.accept.Goals as goal

@@ -5,7 +5,7 @@ use Rattle.strand_events.specs.declared.event.Event.{Event}
 use Rattle.strand_events.specs.Trace.{persists_of}
 use Rattle.strand_events.specs.Order.{Set, held, sets_word}
 use Rattle.strand_events.proofs.Kept.{persists_most}
-use Rattle.strand_events.specs.Places.{address_of}
+use Rattle.strand_base.specs.Places.{address_of}
 use Rattle.strand_judge.specs.Words.{crash_of}
 use Rattle.strand_judge.specs.Images.{IsImage}
 use Rattle.strand_judge.proofs.Judged.{judged_settled, least_judged}

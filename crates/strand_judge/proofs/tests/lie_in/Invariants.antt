@@ -1,6 +1,6 @@
 use Rattle.std.proofs.Common.{◌≡◌, ◌<◌, ℕ, true}
 use Rattle.strand_events.specs.Trace.{is_persist, word_at, event_is}
-use Rattle.strand_events.specs.Places.{address_of, place_of}
+use Rattle.strand_base.specs.Places.{address_of, place_of}
 use Rattle.strand_judge.proofs.tests.lie_in.Given as goal
 
 abbrev pub invariant-loop-k : goal.invariant-loop-k

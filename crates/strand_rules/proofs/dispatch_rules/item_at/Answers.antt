@@ -3,7 +3,7 @@ use Rattle.std.specs.Prelude.{slice_get}
 use Rattle.strand_base.specs.Counting.{count_below}
 use Rattle.strand_events.specs.Trace.{core_event_is}
 use Rattle.strand_rules.specs.Cycle.{items, is_item}
-use Rattle.strand_rules.proofs.Finding.{list_at, list_none}
+use Rattle.strand_base.proofs.Finding.{list_at, list_none}
 use Rattle.strand_rules.proofs.dispatch_rules.item_at.Goals as goal
 
 pub returns-then-passed-place-clause-item : goal.returns-then-passed-place-clause-item

@@ -4,7 +4,7 @@ use Rattle.strand_base.specs.Counting.{count_below}
 use Rattle.strand_rules.specs.Cycle.{is_eligible, eligible}
 use Rattle.strand_rules.specs.Looking.{settings_of, state_of}
 use Rattle.strand_rules.proofs.Sending.{eligible_marked}
-use Rattle.strand_rules.proofs.Finding.{list_at, list_none}
+use Rattle.strand_base.proofs.Finding.{list_at, list_none}
 use Rattle.strand_rules.proofs.send_rules.eligible_at.Goals as goal
 
 pub returns-then-passed-place-clause-eligible : goal.returns-then-passed-place-clause-eligible

@@ -1,7 +1,8 @@
 use Rattle.std.proofs.Common.{◌≤◌, length}
 use Rattle.std.specs.Prelude.{vec_capacity}
+use Rattle.strand_modules.specs.Seen.{bank_seen}
 use Rattle.strand_run.proofs.Made.{MadeSteps}
 use Rattle.strand_run.proofs.stepping.make_steps.Given as goal
 
 abbrev pub invariant-loop-i : goal.invariant-loop-i
-invariant-loop-i l = MadeSteps l.initial.machine l.machine l.steps l.i l.initial.bank l.bank l.bubbles.items × (length l.steps ≤ vec_capacity l.bubbles)
+invariant-loop-i g l = MadeSteps l.initial.machine.machine l.machine.machine l.steps l.i (bank_seen (λ z. (goal.PmModule-dyn g z).holds z.1) l.initial.bank) (bank_seen (λ z. (goal.PmModule-dyn g z).holds z.1) l.bank) l.bubbles.items × (length l.steps ≤ vec_capacity l.bubbles)

@@ -6,6 +6,7 @@ use Rattle.strand_app.specs.Files.{Opened}
 use Rattle.strand_app.specs.Judging.{question_of}
 use Rattle.strand_app.specs.Opening.{OpensTo, names_of}
 use Rattle.strand_app.proofs.Comes.{refused_comes, machine_comes}
+use Rattle.strand_modules.specs.Seen.{bank_seen}
 use Rattle.strand_app.proofs.commands.judge.judge_crash.Goals as goal
 
 pub returns-in-Ok : goal.returns-in-Ok
@@ -13,7 +14,7 @@ returns-in-Ok g c =
     let before = g.F.Files.seen c.args.files.now in
     let after = g.F.Files.seen c.open_question.new.files in
     let names = names_of c.args.words ++ c.args.crash.now ∷ [] in
-    machine_comes Question (λ q. q.run) (λ q bank. PutsVerdict q) RefutesCrash names (judge_reads c.args.bank.now.size c.args.words.stop) before after c.args.bank.now c.verdict_on_bank.new.bank (question_of c.in-Ok.question)
+    machine_comes Question (λ q. q.run) (λ q bank. PutsVerdict q) RefutesCrash names (judge_reads (bank_seen (λ z. (goal.PmModule-dyn g z).holds z.1) c.args.bank.now).size c.args.words.stop) before after (bank_seen (λ z. (goal.PmModule-dyn g z).holds z.1) c.args.bank.now) (bank_seen (λ z. (goal.PmModule-dyn g z).holds z.1) c.verdict_on_bank.new.bank) (question_of c.in-Ok.question)
     c.verdict_on_bank.result
     (subst (λ (size : ℕ). Opened names (judge_reads size c.args.words.stop) before after (Ok (question_of c.in-Ok.question))) c.words.ensures c.in-Ok.ensures.opens) c.verdict_on_bank.ensures
 
@@ -22,5 +23,5 @@ returns-in-Err g c =
     let before = g.F.Files.seen c.args.files.now in
     let after = g.F.Files.seen c.open_question.new.files in
     let names = names_of c.args.words ++ c.args.crash.now ∷ [] in
-    refused_comes (judge_rule_in c.args.words c.args.crash.now c.args.bank.now) question_of before after c.args.bank.now c.in-Err.fault c.refuse.result
+    refused_comes (judge_rule_in c.args.words c.args.crash.now (bank_seen (λ z. (goal.PmModule-dyn g z).holds z.1) c.args.bank.now)) question_of before after (bank_seen (λ z. (goal.PmModule-dyn g z).holds z.1) c.args.bank.now) c.in-Err.fault c.refuse.result
     (subst (λ (size : ℕ). OpensTo names (judge_reads size c.args.words.stop) question_of before after (Err c.in-Err.fault)) c.words.ensures c.in-Err.ensures.opens) c.refuse.ensures

@@ -1,9 +1,10 @@
 use Rattle.strand_app.specs.Commands.Run.{PutsReport}
 use Rattle.strand_app.specs.Opening.{inputs_of}
 use Rattle.strand_app.proofs.Ran.{stops_on_bank}
+use Rattle.strand_modules.specs.Seen.{bank_seen}
 use Rattle.strand_app.proofs.commands.run.report_on_bank.Goals as goal
 
 pub returns-in_err-report-in-Whole : goal.returns-in_err-report-in-Whole
-returns-in_err-report-in-Whole c =
-    stops_on_bank (inputs_of c.args.setup.now) c.args.bank.now c.run_on_bank.new.bank (PutsReport (inputs_of c.args.setup.now) c.args.bank.now) c.in_ok-run.field-0 c.from_residual-in_err-report-in-Whole.result
+returns-in_err-report-in-Whole g c =
+    stops_on_bank (inputs_of c.args.setup.now) (bank_seen (λ z. (goal.PmModule-dyn g z).holds z.1) c.args.bank.now) (bank_seen (λ z. (goal.PmModule-dyn g z).holds z.1) c.run_on_bank.new.bank) (PutsReport (inputs_of c.args.setup.now) (bank_seen (λ z. (goal.PmModule-dyn g z).holds z.1) c.args.bank.now)) c.in_ok-run.field-0 c.from_residual-in_err-report-in-Whole.result
     c.in_ok-run.ensures.ran c.from_residual-in_err-report-in-Whole.ensures.0

@@ -1,7 +1,7 @@
-use Rattle.std.proofs.Common.{◌≡◌, take}
-use Rattle.strand_modules.specs.Bank.{Keeps, front_written, stores_accepted}
+use Rattle.strand_modules.specs.Here.{bank_here}
+use Rattle.strand_modules.proofs.Filled.{Filled}
 use Rattle.strand_modules.proofs.bank.ModuleBank.fill.Given as goal
 
 abbrev pub invariant-loop-i : goal.invariant-loop-i
-invariant-loop-i l =
-    Keeps l.initial.self l.self × (l.self.refused ≡ l.initial.self.refused) × (l.self.told ≡ front_written (take l.i l.words) l.initial.self.told) × (l.self.accepted ≡ stores_accepted l.i l.initial.self.accepted)
+invariant-loop-i g l =
+    Filled (bank_here (λ part. (goal.PmModule-dyn g (part.vtable, part.value)).holds part.value) l.initial.self) (bank_here (λ part. (goal.PmModule-dyn g (part.vtable, part.value)).holds part.value) l.self) l.words l.i

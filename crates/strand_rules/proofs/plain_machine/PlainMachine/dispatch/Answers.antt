@@ -1,33 +1,38 @@
-use Rattle.std.proofs.Common.{◌≡◌, ◌<◌, ◌+◌, ◌∙◌, arith, true, sym, ap, subst}
-use Rattle.std.specs.Prelude.{Some, slice_set, if◌then◌else◌}
-use Rattle.strand_events.specs.Trace.{event_is, is_persist}
+use Rattle.std.proofs.Common.{◌≡◌, ◌<◌, ◌+◌, ◌∙◌, arith, sym, ap, subst}
+use Rattle.std.specs.Prelude.{slice_set}
 use Rattle.strand_rules.specs.Cycle.{gone, front, item_after, IsReached}
-use Rattle.strand_rules.specs.Machine.{Machine, made_to}
+use Rattle.strand_rules.specs.Looking.{marked_at}
+use Rattle.strand_rules.specs.Machine.{Machine, FrontIs, made_to}
 use Rattle.strand_rules.specs.Kept.{seen}
-use Rattle.strand_rules.proofs.Dispatching.{front_few, front_within}
-use Rattle.strand_rules.proofs.Keeping.{kept_item}
+use Rattle.strand_rules.proofs.Dispatching.{front_few}
+use Rattle.strand_rules.proofs.Fronts.{front_there, persist_within, dispatched_state, kept_dispatched}
 use Rattle.strand_rules.proofs.plain_machine.PlainMachine.dispatch.Goals as goal
 
 pub mark_item-requires-clause-few : goal.mark_item-requires-clause-few
 mark_item-requires-clause-few c =
     let m = seen c.self.inside in
-    let first : front m.config m.state c.args.n ≡ Some c.args.k = subst (λ (m : Machine). front m.config m.state c.args.n ≡ Some c.args.k) (sym c.self.view_is) c.requires.front in
+    let is : FrontIs m.config m.state c.args.n c.args.persist = subst (λ (m : Machine). FrontIs m.config m.state c.args.n c.args.persist) (sym c.self.view_is) c.requires.front in
+    let first = front_there m.config m.state c.args.n c.args.persist is in
     let kept = c.self.invariant.kept in
-    omega (arith, front_few m.config m.state c.args.n c.args.k first, kept.few_events, kept.made_within, kept.few_steps)
+    omega (arith, front_few m.config m.state c.args.n first.0 first.1, kept.few_events, kept.made_within, kept.few_steps)
+
+pub mark_item-requires-clause-event : goal.mark_item-requires-clause-event
+mark_item-requires-clause-event c =
+    let m = seen c.self.inside in
+    persist_within m.config m.state c.args.n c.args.persist c.self.invariant.kept.buffered (subst (λ (m : Machine). FrontIs m.config m.state c.args.n c.args.persist) (sym c.self.view_is) c.requires.front)
 
 pub invariant_of-self : goal.invariant_of-self
 invariant_of-self c =
     let m = seen c.self.inside in
-    let first : front m.config m.state c.args.n ≡ Some c.args.k = subst (λ (m : Machine). front m.config m.state c.args.n ≡ Some c.args.k) (sym c.self.view_is) c.requires.front in
+    let is : FrontIs m.config m.state c.args.n c.args.persist = subst (λ (m : Machine). FrontIs m.config m.state c.args.n c.args.persist) (sym c.self.view_is) c.requires.front in
     let room : m.made < m.steps = omega (arith, c.requires.room, ap (λ (m : Machine). m.made) c.self.view_is, ap (λ (m : Machine). m.steps) c.self.view_is) in
-    let persist = c.is_persist_at-persist.result in
-    let is : event_is is_persist m.state.now.trace c.args.k ≡ persist = sym (c.is_persist_at-persist.ensures ∙ ap (λ t. event_is is_persist t c.args.k) c.events.ensures.events) in
+    let reached : IsReached m.config m.program (item_after m.state c.args.n (front m.config m.state c.args.n)) = subst (λ (m : Machine). IsReached m.config m.program (item_after m.state c.args.n (front m.config m.state c.args.n))) (sym c.self.view_is) c.requires.reached in
     let d : c.mark_item.new.dispatched.items ≡ slice_set m.state.dispatched c.args.n (gone m.state c.args.n + 1) = c.mark_item.ensures.dispatched in
-    let b : c.mark_item.new.buffered.items ≡ (if persist then slice_set m.state.buffered c.args.k true else m.state.buffered) = c.mark_item.ensures.buffered in
+    let b : c.mark_item.new.buffered.items ≡ marked_at m.state.buffered c.args.persist = c.mark_item.ensures.buffered in
     let held = c.self.invariant in
     record {
-      kept = rw (d, b) (kept_item m c.args.n c.args.k persist held.kept room (front_within m.config m.state c.args.n c.args.k first) is);
-      reached = rw (d, b, sym is) (subst (λ (n : Machine). IsReached n.config n.program (item_after n.state c.args.n (Some c.args.k))) (sym c.self.view_is) c.requires.reached);
+      kept = rw (d, b) (kept_dispatched m c.args.n c.args.persist is held.kept room);
+      reached = rw (d, b) (subst (IsReached m.config m.program) (sym (dispatched_state m.config m.state c.args.n c.args.persist is)) reached);
       persisted = held.persisted;
       room = held.room;
       retired_room = held.retired_room;
@@ -40,8 +45,8 @@ invariant_of-self c =
 pub returns : goal.returns
 returns c =
     let m = seen c.self.inside in
-    let persist = c.is_persist_at-persist.result in
-    let is : persist ≡ event_is is_persist m.state.now.trace c.args.k = c.is_persist_at-persist.ensures ∙ ap (λ t. event_is is_persist t c.args.k) c.events.ensures.events in
+    let is : FrontIs m.config m.state c.args.n c.args.persist = subst (λ (m : Machine). FrontIs m.config m.state c.args.n c.args.persist) (sym c.self.view_is) c.requires.front in
     let d : c.mark_item.new.dispatched.items ≡ slice_set m.state.dispatched c.args.n (gone m.state c.args.n + 1) = c.mark_item.ensures.dispatched in
-    let b : c.mark_item.new.buffered.items ≡ (if persist then slice_set m.state.buffered c.args.k true else m.state.buffered) = c.mark_item.ensures.buffered in
-    rw (d, b, is) (ap (λ (m : Machine). made_to m (item_after m.state c.args.n (Some c.args.k))) c.self.view_is)
+    let b : c.mark_item.new.buffered.items ≡ marked_at m.state.buffered c.args.persist = c.mark_item.ensures.buffered in
+    rw (d, b) (ap (made_to m) (dispatched_state m.config m.state c.args.n c.args.persist is))
+    ∙ ap (λ (m : Machine). made_to m (item_after m.state c.args.n (front m.config m.state c.args.n))) c.self.view_is

@@ -5,7 +5,7 @@ use Rattle.strand_rules.proofs.Reached.{write_reached}
 use Rattle.strand_rules.proofs.plain_machine.PlainMachine.step_write.Goals as goal
 
 pub write-requires-clause-reached : goal.write-requires-clause-reached
-write-requires-clause-reached c =
+write-requires-clause-reached g c =
     let m = c.args.self.now in
     let reached : IsReached m.config m.program m.state = subst (λ (m : Machine). IsReached m.config m.program m.state) c.self.view_is c.self.invariant.reached in
     write_reached m c.args.j c.in-Some.p reached c.in-Some.ensures.request (sym c.if-older_waits.ensures)

@@ -18,7 +18,7 @@ index_mut-requires-2 c =
     let m = seen c.self.inside in
     let t = m.state.now.trace in
     let is : event_is is_persist t c.args.p ≡ true = subst (λ (m : Machine). event_is is_persist m.state.now.trace c.args.p ≡ true) (sym c.self.view_is) c.requires.persist in
-    let number = c.persist_number-number.ensures ∙ ap (λ t. count_below c.args.p (event_is is_persist t)) c.events.ensures.events in
+    let number = c.requires.number ∙ ap (λ (m : Machine). count_below c.args.p (event_is is_persist m.state.now.trace)) (sym c.self.view_is) in
     omega (
       arith,
       number,
@@ -37,7 +37,7 @@ invariant_of-self c =
     let is : event_is is_persist t c.args.p ≡ true = subst (λ (m : Machine). event_is is_persist m.state.now.trace c.args.p ≡ true) (sym c.self.view_is) c.requires.persist in
     let there : slice_get m.state.flight c.args.j ≡ Some c.args.p = subst (λ (m : Machine). slice_get m.state.flight c.args.j ≡ Some c.args.p) (sym c.self.view_is) c.requires.request in
     let room : m.made < m.steps = omega (arith, c.requires.room, ap (λ (m : Machine). m.made) c.self.view_is, ap (λ (m : Machine). m.steps) c.self.view_is) in
-    let number = c.persist_number-number.ensures ∙ ap (λ t. count_below c.args.p (event_is is_persist t)) c.events.ensures.events in
+    let number = c.requires.number ∙ ap (λ (m : Machine). count_below c.args.p (event_is is_persist m.state.now.trace)) (sym c.self.view_is) in
     let inside = within is_persist t c.args.p is in
     let marked = marks_set (length t) (event_is is_persist t) m.state.durable c.args.p true inside is (omega (arith, inside, held_all.kept.durable)) in
     record {

@@ -1,0 +1,224 @@
+-- The parts after a core retired its instruction.
+use Rattle.std.proofs.Common.{◌≡◌, ℕ, ◌-◌, ◌<◌, ◌≤◌, Bool, true, false, ◌&&◌, inl, inr, List, [], ◌∷◌, ◌++◌, length, sym, ap, subst, ◌∙◌, arith}
+use Rattle.std.specs.Prelude.{◌==◌, slice_get, slice_index, Some, None, IfSome, if◌then◌else◌}
+use Rattle.std.specs.declared.option.Option.{Option}
+use Rattle.std.proofs.lemmas.Bool.{cases_Bool, cases_eq, eq-eqb, both_ways}
+use Rattle.std.proofs.lemmas.List.{length-map}
+use Rattle.strand_base.specs.Counting.{count_below}
+use Rattle.strand_base.proofs.Counting.{get_last, list_length}
+use Rattle.strand_inputs.specs.declared.mode.Mode.{Mode}
+use Rattle.strand_events.specs.declared.event.Event.{Event}
+use Rattle.strand_events.specs.Trace.{core_of, word_of, is_access, is_store, is_persist, is_join, core_event_is}
+use Rattle.strand_events.proofs.Kept.{count_most}
+use Rattle.strand_rules.specs.declared.turn.Cause.TheVariants as causes
+use Rattle.strand_rules.specs.declared.turn.Turn.TheVariants.{Done, Bubble}
+use Rattle.strand_rules.specs.Visible.{event_of, grown, next_plan, plan_by, plan_in}
+use Rattle.strand_rules.specs.Cycle.{IsReached, State, is_item, join_waits, made_turn, must_wait, queued, core_after, event_in, next_event}
+use Rattle.strand_rules.specs.Machine.{Machine, Runs, made_to}
+use Rattle.strand_exec.specs.Plan.{asked, plan_of}
+use Rattle.strand_exec.specs.declared.effect.Effect.{Effect}
+use Rattle.strand_exec.specs.declared.planned.Plan.{Plan}
+use Rattle.strand_events.specs.Order.{held}
+use Rattle.strand_rules.proofs.Growing.{length_grown}
+use Rattle.strand_rules.proofs.Reached.{core_reached}
+use Rattle.strand_rules.proofs.Retired.{retired_trace}
+use Rattle.strand_rules.proofs.Setup.{retired_cores}
+use Rattle.strand_rules.proofs.Turns.{if_done, so_not}
+use Rattle.strand_queue.specs.declared.item.Item.{Item}
+use Rattle.strand_queue.specs.Queue.{Queue}
+use Rattle.strand_tags.specs.Access.{access, noted_as}
+use Rattle.strand_tags.specs.TagsSeen.{TagsSeen, CanAsk}
+use Rattle.strand_tags.specs.Traces.{core_persists}
+use Rattle.strand_machine.specs.Changed.{CanQueue, Notes, with_made}
+use Rattle.strand_machine.specs.Machine.{FitsCore, RingMachine}
+use Rattle.strand_machine.specs.Stand.{PartsSeen, Stand, newest_item, queue_at, tally_at}
+use Rattle.strand_machine.proofs.Fronts.{Holds}
+use Rattle.strand_machine.proofs.Growth.{next_most}
+use Rattle.strand_machine.proofs.Held.{HasRooms, Stands, rooms_moved, stand_moved}
+use Rattle.strand_machine.proofs.Queued.{queued_by_queue}
+use Rattle.strand_machine.proofs.NextEvent.{IsNext, made_of, made_tags, newest_is, own_asks, own_counts, own_stand, rooms_made}
+
+-- what a core that runs asks
+running_plan : (m : Machine) (n : ℕ) (effect : Effect) (request : Plan) → Runs m n effect → request ≡ asked effect → next_plan m.program m.state.now n ≡ Some request
+unfolding plan_of
+running_plan m n effect request runs asks =
+    ap (plan_in m.program) runs.there ∙ ap (plan_by m.program runs.core) runs.running ∙ sym (ap (λ p. Some p) (asks ∙ ap asked runs.effect_is))
+
+-- core n, which runs, retires an instruction that asks this and makes this event
+pub record Retiring (r : RingMachine) (n : ℕ) (request : Plan) (o : Option Event) : Type 0 where
+  pub holds : Holds r
+  pub there : n < length r.machine.state.now.cores
+  pub asks : next_plan r.machine.program r.machine.state.now n ≡ Some request
+  pub event : o ≡ event_of n r.machine.state.now.memory request
+  pub fits : IfSome o (FitsCore r.machine.program.sizes n)
+  pub done : made_turn r.machine.config r.machine.state n o ≡ Done
+  pub room : r.machine.made < r.machine.steps
+
+-- what is required of the machine, for the fields
+pub retiring_inside : (inside r : RingMachine) (n : ℕ) (effect : Effect) (request : Plan) (o : Option Event) → inside ≡ r → Holds inside → n < length r.machine.state.now.cores
+    → Runs r.machine n effect → request ≡ asked effect → o ≡ event_of n r.machine.state.now.memory request → IfSome o (FitsCore r.machine.program.sizes n)
+    → made_turn r.machine.config r.machine.state n o ≡ Done → r.machine.made < r.machine.steps → Retiring inside n request o
+retiring_inside inside r n effect request o same holds there runs asks event fits done room = subst (λ r. Retiring r n request o) (sym same) (record {
+  holds = subst Holds same holds;
+  there = there;
+  asks = running_plan r.machine n effect request runs asks;
+  event = event;
+  fits = fits;
+  done = done;
+  room = room;
+})
+
+module _ (r : RingMachine) (n : ℕ) (request : Plan) (o : Option Event) (step : Retiring r n request o) where
+  pub retiring_reached : IsReached r.machine.config r.machine.program (core_after r.machine.program r.machine.state n o)
+  retiring_reached = core_reached r.machine n request o step.holds.reached (sym step.asks) step.event step.done
+
+  event_next : next_event r.machine.program r.machine.state.now n ≡ o
+  event_next = ap (event_in n r.machine.state.now.memory) step.asks ∙ sym step.event
+
+  pub is_next : (e : Event) → o ≡ Some e → IsNext r n e
+  is_next e same = record {
+    holds = step.holds;
+    there = step.there;
+    fits = (let fits : IfSome (Some e) (FitsCore r.machine.program.sizes n) = subst (λ o. IfSome o (FitsCore r.machine.program.sizes n)) same step.fits in fits);
+    next = event_next ∙ same;
+  }
+
+  pub none_next : o ≡ None → next_event r.machine.program r.machine.state.now n ≡ None
+  none_next same = event_next ∙ same
+
+-- an instruction without an event leaves the parts
+module _ (r : RingMachine) (holds : Holds r) (n : ℕ) (next : next_event r.machine.program r.machine.state.now n ≡ None) where
+  abbrev quiet : State
+  quiet = core_after r.machine.program r.machine.state n None
+
+  quiet_cores : length quiet.now.cores ≡ length r.machine.state.now.cores
+  quiet_cores = retired_cores r.machine.program r.machine.state.now n
+
+  pub stand_quiet : Stand r.machine.config r.machine.program.sizes quiet r.parts
+  stand_quiet = subst (λ (t : List Event). Stand r.machine.config r.machine.program.sizes (record quiet { now = record quiet.now { trace = t } }) r.parts)
+      (sym (retired_trace r.machine.program r.machine.state.now n ∙ ap (grown r.machine.state.now.trace) next)) (record {
+        queue_count = holds.stand.queue_count ∙ sym quiet_cores;
+        queues = λ i lt. holds.stand.queues i (omega (arith, lt, quiet_cores));
+        buffer_count = holds.stand.buffer_count ∙ sym quiet_cores;
+        buffers = λ i lt. (let b = holds.stand.buffers i (omega (arith, lt, quiet_cores)) in record { ring = b.ring; buffers = b.buffers; strand = b.strand; lists = b.lists; number = b.number; epoch = b.epoch });
+        tags = record {
+          extents = holds.stand.tags.extents;
+          cores = holds.stand.tags.cores ∙ sym quiet_cores;
+          accesses = holds.stand.tags.accesses;
+          strands = λ i lt. holds.stand.tags.strands i (omega (arith, lt, quiet_cores));
+          made = λ i lt. holds.stand.tags.made i (omega (arith, lt, quiet_cores));
+        };
+        control = holds.stand.control;
+        tally_count = holds.stand.tally_count ∙ sym quiet_cores;
+        tallies = λ i lt. (let c = holds.stand.tallies i (omega (arith, lt, quiet_cores)) in record { numbers = c.numbers; first = c.first; strand = c.strand });
+      })
+
+  pub rooms_quiet : HasRooms (made_to r.machine quiet) r.parts
+  rooms_quiet = λ i lt. holds.rooms i (omega (arith, lt, quiet_cores))
+
+-- a queue has room for what a done instruction makes
+module _ (r : RingMachine) (n : ℕ) (e : Event) (is : IsNext r n e) (within : length (queue_at r.parts n).items ≤ (queue_at r.parts n).depth) (room : r.machine.made < r.machine.steps) (done : made_turn r.machine.config r.machine.state n (Some e) ≡ Done) where
+  can_queue : is_item r.machine.config.mode e ≡ true → CanQueue (queue_at r.parts n) (tally_at r.parts n)
+  can_queue item =
+      let g = r.machine.config in
+      let s = r.machine.state in
+      let t = s.now.trace in
+      let must : Bool = must_wait g.mode (t ++ e ∷ []) (held s.durable) (length t) in
+      let crowded : Bool = is_item g.mode e && (queued g s n == g.queue) in
+      let one = if_done (is_join e && join_waits g s n) causes.Join (if is_access e && must then Bubble causes.Conflict else if crowded then Bubble causes.Queue else Done) done in
+      let two = if_done (is_access e && must) causes.Conflict (if crowded then Bubble causes.Queue else Done) one.1 in
+      let three = if_done crowded causes.Queue Done two.1 in
+      let ne : queued g s n ≡ g.queue → ⊥ = λ same. both_ways (queued g s n == g.queue) (so_not (is_item g.mode e) (queued g s n == g.queue) three.0 item) (eq-eqb (queued g s n) g.queue same) in
+      let items : length (queue_at r.parts n).items ≡ queued g s n = ap (λ (q : Queue). length q.items) (is.holds.stand.queues n is.there) ∙ queued_by_queue g s n in
+      let depth : (queue_at r.parts n).depth ≡ g.queue = ap (λ (q : Queue). q.depth) (is.holds.stand.queues n is.there) in
+      let tally = is.holds.stand.tallies n is.there in
+      let numbers : length (tally_at r.parts n).numbers ≡ count_below (length t) (core_event_is is_persist n t) = ap length tally.numbers ∙ length-map (core_persists t n) _ ∙ list_length (length t) (core_event_is is_persist n t) in
+      let most = count_most (length t) (core_event_is is_persist n t) in
+      let rooms = is.holds.rooms n is.there in
+      record {
+        queue = elim (cases_eq (queued g s n) g.queue) [ inl same ↦ absurd (ne same) | inr other ↦ (let lt : queued g s n < g.queue = (let le : queued g s n ≤ g.queue = omega (arith, within, items, depth) in grind arith) in omega (arith, lt, items, depth)) ];
+        room = omega (arith, numbers, most, rooms, is.holds.kept.few_events, room);
+        strand = omega (arith, tally.strand, next_most g.mode t n, is.holds.kept.few_events, room, is.holds.kept.few_steps);
+      }
+
+  pub made_room : (item : Option Item) → item ≡ made_of r.machine.config.mode r.machine.state.now.trace e → IfSome item (λ i. CanQueue (queue_at r.parts n) (tally_at r.parts n))
+  made_room item same = subst (λ o. IfSome o (λ i. CanQueue (queue_at r.parts n) (tally_at r.parts n))) (sym same) (elim (cases_Bool (is_item r.machine.config.mode e)) [
+    | inl yes_ ↦ rw yes_ (can_queue yes_)
+    | inr no_ ↦ rw no_ tt
+  ])
+
+module _ (r : RingMachine) (n : ℕ) (e : Event) (is : IsNext r n e) (plain : Machine) (moved : plain ≡ made_to r.machine (core_after r.machine.program r.machine.state n (Some e))) where
+  abbrev trace : List Event
+  trace = r.machine.state.now.trace
+
+  abbrev made_item : Option Item
+  made_item = made_of r.machine.config.mode trace e
+
+  trace_is : plain.state.now.trace ≡ trace ++ e ∷ []
+  trace_is = ap (λ (m : Machine). m.state.now.trace) moved ∙ retired_trace r.machine.program r.machine.state.now n ∙ ap (grown trace) is.next
+
+  -- the event at the trace's end
+  pub event_last : slice_get plain.state.now.trace (length plain.state.now.trace - 1) ≡ Some e
+  event_last =
+      let last : length (trace ++ e ∷ []) - 1 ≡ length trace = omega (arith, length_grown trace e) in
+      ap (λ (t : List Event). slice_get t (length t - 1)) trace_is ∙ ap (slice_get (trace ++ e ∷ [])) last ∙ get_last trace e
+
+  -- and the item that it stands for
+  pub item_is : (new : Option Item) (mode : Mode) (events : List Event) → new ≡ newest_item mode events → mode ≡ plain.config.mode → events ≡ plain.state.now.trace → new ≡ made_of r.machine.config.mode r.machine.state.now.trace e
+  item_is new mode events newest same_mode same_events =
+      newest ∙ ap (newest_item mode) (same_events ∙ trace_is) ∙ newest_is mode trace e
+      ∙ ap (λ mode. made_of mode trace e) (same_mode ∙ ap (λ (m : Machine). m.config.mode) moved)
+
+  module _ (new : Option Item) (made_is : new ≡ made_item) (parts : PartsSeen) (made_parts : parts ≡ with_made r.parts n new) where
+    own : core_of e ≡ n
+    own = is.fits.core
+
+    own_is : IsNext r (core_of e) e
+    own_is = subst (λ n. IsNext r n e) (sym own) is
+
+    abbrev with_own : PartsSeen
+    with_own = with_made r.parts (core_of e) made_item
+
+    parts_is : parts ≡ with_own
+    parts_is = made_parts ∙ ap (with_made r.parts n) made_is ∙ ap (λ n. with_made r.parts n made_item) (sym own)
+
+    tags_is : parts.tags ≡ r.parts.tags
+    tags_is = ap (λ (p : PartsSeen). p.tags) made_parts ∙ made_tags r.parts n new
+
+    -- an access can be asked of the tags and noted
+    pub asks : is_access e ≡ true → CanAsk parts.tags (access n (tally_at parts n).strand (word_of e) (is_store e))
+    asks yes_ = subst (λ n. CanAsk parts.tags (access n (tally_at parts n).strand (word_of e) (is_store e))) own
+        (subst (λ (p : PartsSeen). CanAsk parts.tags (access (core_of e) (tally_at p (core_of e)).strand (word_of e) (is_store e))) (sym parts_is)
+        (subst (λ tags. CanAsk tags (access (core_of e) (tally_at with_own (core_of e)).strand (word_of e) (is_store e))) (sym tags_is) (own_asks r e own_is yes_)))
+
+    pub counts : slice_index parts.tags.made n ≤ length (tally_at parts n).numbers
+    counts = subst (λ n. slice_index parts.tags.made n ≤ length (tally_at parts n).numbers) own
+        (subst (λ (p : PartsSeen). slice_index parts.tags.made (core_of e) ≤ length (tally_at p (core_of e)).numbers) (sym parts_is)
+        (subst (λ (tags : TagsSeen). slice_index tags.made (core_of e) ≤ length (tally_at with_own (core_of e)).numbers) (sym tags_is) (own_counts r e own_is)))
+
+    module _ (now : PartsSeen)
+        (noted : is_access e ≡ true → Notes parts.tags now.tags (noted_as (access n (tally_at parts n).strand (word_of e) (is_store e)) (length (tally_at parts n).numbers)))
+        (same : is_access e ≡ false → now.tags ≡ parts.tags) (others : now ≡ record parts { tags = now.tags }) where
+      own_noted : is_access e ≡ true → Notes r.parts.tags now.tags (noted_as (access (core_of e) (tally_at with_own (core_of e)).strand (word_of e) (is_store e)) (length (tally_at with_own (core_of e)).numbers))
+      own_noted yes_ = subst (λ tags. Notes tags now.tags (noted_as (access (core_of e) (tally_at with_own (core_of e)).strand (word_of e) (is_store e)) (length (tally_at with_own (core_of e)).numbers))) tags_is
+          (subst (λ (p : PartsSeen). Notes parts.tags now.tags (noted_as (access (core_of e) (tally_at p (core_of e)).strand (word_of e) (is_store e)) (length (tally_at p (core_of e)).numbers))) parts_is
+          (subst (λ n. Notes parts.tags now.tags (noted_as (access n (tally_at parts n).strand (word_of e) (is_store e)) (length (tally_at parts n).numbers))) (sym own) (noted yes_)))
+
+      now_is : now ≡ record with_own { tags = now.tags }
+      now_is = others ∙ ap (λ (p : PartsSeen). record p { tags = now.tags }) parts_is
+
+      abbrev after_ : State
+      after_ = core_after r.machine.program r.machine.state n (Some e)
+
+      -- the parts stand for the state after it
+      pub stand_retired : Stands plain now
+      stand_retired = stand_moved r.machine plain after_ r.parts now (record with_own { tags = now.tags }) moved now_is
+          (subst (λ n. Stand r.machine.config r.machine.program.sizes (core_after r.machine.program r.machine.state n (Some e)) (record with_own { tags = now.tags })) own
+          (own_stand r e own_is now.tags own_noted (λ no_. same no_ ∙ tags_is)))
+
+      -- and the room for what is counted stays
+      pub rooms_retired : HasRooms plain now
+      rooms_retired =
+          let count = retired_cores r.machine.program r.machine.state.now n in
+          rooms_moved r.machine plain after_ r.parts now (record with_own { tags = now.tags }) moved now_is
+          (rooms_made (made_to r.machine after_) r.parts (core_of e) made_item (is.holds.stand.tally_count ∙ sym count) (λ i lt. is.holds.rooms i (omega (arith, lt, count))))

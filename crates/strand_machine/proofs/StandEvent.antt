@@ -1,0 +1,132 @@
+-- The parts after an event of a core.
+use Rattle.std.proofs.Common.{◌≡◌, ℕ, ◌+◌, ◌<◌, ◌≤◌, Bool, true, false, ◌&&◌, inl, inr, List, [], ◌∷◌, ◌++◌, length, map, refl, sym, ap, subst, ◌∙◌, arith}
+use Rattle.std.specs.Prelude.{◌==◌, slice_get, slice_set, slice_index_or, Some}
+use Rattle.std.proofs.lemmas.Bool.{cases_Bool, cases_eq, and_parts, eq-eqb, ne_eqb}
+use Rattle.std.proofs.lemmas.List.{get_or_past, length-set, append-nil}
+use Rattle.strand_base.specs.Counting.{count_below}
+use Rattle.strand_exec.specs.Core as cores
+use Rattle.strand_exec.specs.Core.{Extents}
+use Rattle.strand_exec.specs.Memory.{Memory}
+use Rattle.strand_inputs.specs.Settings.{Settings}
+use Rattle.strand_events.specs.declared.event.Event.{Event}
+use Rattle.strand_events.specs.Trace.{is_persist, is_barrier, is_new_strand, core_of, core_event_is}
+use Rattle.strand_events.specs.Order.{held}
+use Rattle.strand_events.proofs.Kept.{last_is}
+use Rattle.strand_rules.specs.Cycle.{State, is_item, gone}
+use Rattle.strand_rules.proofs.Dispatching.{persist_item}
+use Rattle.strand_rules.proofs.MarkSets.{held_grown}
+use Rattle.strand_queue.specs.declared.item.Item.{Item}
+use Rattle.strand_queue.specs.Queue.{Queue, queue}
+use Rattle.strand_tags.specs.TagsSeen.{TagsSeen}
+use Rattle.strand_tags.specs.Traces.{core_persists, durable_prefix}
+use Rattle.strand_tags.proofs.Longer.{prefix_kept}
+use Rattle.strand_machine.specs.Lists.{persist_number}
+use Rattle.strand_machine.specs.Changed.{tallied, with_item}
+use Rattle.strand_machine.specs.Stand.{item_of, queue_items, BuffersStand, TagsStand, Tally, TallyStands, PartsSeen, Stand, no_queue, no_tally, queue_at, buffers_at, tally_at}
+use Rattle.strand_machine.proofs.Growth.{begins, numbers_grown, number_last, strand_grown, persist_begins, barrier_begins, item_begins}
+use Rattle.strand_machine.proofs.ItemKinds.{item_persist, item_barrier, item_begin}
+use Rattle.strand_machine.proofs.Standing.{at_set, at_other}
+use Rattle.strand_machine.proofs.StandCore.{longer, buffers_longer, queue_longer, requests_longer}
+
+and_left : (x y z : Bool) → (x ≡ true → y ≡ true) → (y && z) ≡ false → (x && z) ≡ false
+and_left true y z so none = rw (so refl) at none
+and_left false y z so none = refl
+
+module _ (g : Settings) (s : State) (e : Event) (cs : List cores.Core) (memory : Memory) (retired : List ℕ)
+    (within : (core : ℕ) → gone s core ≤ count_below (length s.now.trace) (core_event_is (is_item g.mode) core s.now.trace)) (same_marks : length s.durable ≡ length s.now.trace) where
+  abbrev t : List Event
+  t = s.now.trace
+
+  abbrev then_ : State
+  then_ = longer g s e cs memory retired within
+
+  undone : held s.durable (length t) ≡ false
+  undone = get_or_past s.durable (length t) false (omega (arith, same_marks))
+
+  first_kept : (n : ℕ) → durable_prefix t (held s.durable) n ≡ durable_prefix (t ++ e ∷ []) (held (s.durable ++ false ∷ [])) n
+  first_kept n = sym (prefix_kept t e (held s.durable) n undone) ∙ ap (λ d. durable_prefix (t ++ e ∷ []) d n) (sym (held_grown s.durable))
+
+  -- an event that is no item of the core leaves what is counted of it
+  pub tally_kept : (n : ℕ) (c : Tally) → (is_item g.mode e && (core_of e == n)) ≡ false → TallyStands g s n c → TallyStands g then_ n c
+  tally_kept n c none stand = record {
+    numbers = stand.numbers ∙ sym (numbers_grown t e n ∙ (rw (and_left (is_persist e) (is_item g.mode e) (core_of e == n) (persist_item g.mode e) none) refl));
+    first = stand.first ∙ first_kept n;
+    strand = stand.strand ∙ sym (strand_grown g.mode t e n ∙ (rw (and_left (begins g.mode e) (is_item g.mode e) (core_of e == n) (λ h. (and_parts (is_item g.mode e) (is_new_strand e) h).0) none) (omega arith)));
+  }
+
+  -- an item of the core is counted
+  pub tally_more : (c : Tally) → is_item g.mode e ≡ true → TallyStands g s (core_of e) c → TallyStands g then_ (core_of e) (tallied c (item_of g then_ (length t)))
+  tally_more c item stand =
+      let own : (core_of e == core_of e) ≡ true = eq-eqb (core_of e) (core_of e) refl in
+      let numbers = numbers_grown t e (core_of e) in
+      let strand = strand_grown g.mode t e (core_of e) in
+      elim (cases_Bool (is_persist e)) [
+        | inl is ↦ subst (λ i. TallyStands g then_ (core_of e) (tallied c i)) (sym (item_persist g then_ (length t) (last_is is_persist t e ∙ is))) (record {
+          numbers = ap (λ ns. ns ++ persist_number (t ++ e ∷ []) (length t) ∷ []) stand.numbers ∙ ap (λ n. map (persist_number t) (core_persists t (core_of e)) ++ n ∷ []) (number_last t e) ∙ sym (numbers ∙ (rw (is, own) refl));
+          first = stand.first ∙ first_kept (core_of e);
+          strand = stand.strand ∙ sym (strand ∙ (rw (persist_begins g.mode e is) (omega arith)));
+        })
+        | inr no_ ↦ elim (cases_Bool (is_barrier e)) [
+          | inl is ↦ subst (λ i. TallyStands g then_ (core_of e) (tallied c i)) (sym (item_barrier g then_ (length t) (last_is is_persist t e ∙ no_) (last_is is_barrier t e ∙ is))) (record {
+            numbers = stand.numbers ∙ sym (numbers ∙ (rw no_ refl));
+            first = stand.first ∙ first_kept (core_of e);
+            strand = stand.strand ∙ sym (strand ∙ (rw (barrier_begins g.mode e is) (omega arith)));
+          })
+          | inr none ↦ subst (λ i. TallyStands g then_ (core_of e) (tallied c i)) (sym (item_begin g then_ (length t) (last_is is_persist t e ∙ no_) (last_is is_barrier t e ∙ none))) (record {
+            numbers = stand.numbers ∙ sym (numbers ∙ (rw no_ refl));
+            first = stand.first ∙ first_kept (core_of e);
+            strand = ap (λ n. n + 1) stand.strand ∙ sym (strand ∙ (rw (item_begins g.mode e item no_ none, own) refl));
+          })
+        ]
+      ]
+
+  module _ (x : Extents) (m : PartsSeen) (tags : TagsSeen) (stand : Stand g x s m) (same_cores : length cs ≡ length s.now.cores)
+      (inside : (i p : ℕ) → slice_get s.flight i ≡ Some p → p < length s.now.trace) (tags_stand : TagsStand g x then_ tags) where
+    buffers_kept : (n : ℕ) → n < length cs → BuffersStand g then_ n (buffers_at m n)
+    buffers_kept n lt = buffers_longer g s e cs memory retired within n (buffers_at m n) (stand.buffers n (omega (arith, lt, same_cores)))
+
+    -- an event that is no item leaves the parts but for the tags
+    pub stand_other : is_item g.mode e ≡ false → Stand g x then_ (record m { tags = tags })
+    stand_other no_ = record {
+      queue_count = stand.queue_count ∙ sym same_cores;
+      queues = λ n lt. stand.queues n (omega (arith, lt, same_cores)) ∙ ap (λ items. queue items g.queue) (sym (queue_longer g s e cs memory retired within n ∙ (rw no_ (append-nil _))));
+      buffer_count = stand.buffer_count ∙ sym same_cores;
+      buffers = buffers_kept;
+      tags = tags_stand;
+      control = stand.control ∙ ap (λ rs. record { requests = rs; limit = g.flight }) (sym (requests_longer g s e cs memory retired within inside));
+      tally_count = stand.tally_count ∙ sym same_cores;
+      tallies = λ n lt. tally_kept n (tally_at m n) (rw no_ refl) (stand.tallies n (omega (arith, lt, same_cores)));
+    }
+
+    abbrev item : Item
+    item = item_of g then_ (length t)
+
+    abbrev own : ℕ
+    own = core_of e
+
+    -- an item stands at the end of its core's queue, and is counted
+    pub stand_item : is_item g.mode e ≡ true → core_of e < length s.now.cores → Stand g x then_ (record (with_item m (core_of e) item) { tags = tags })
+    stand_item yes_ core = record {
+      queue_count = length-set m.queues own _ ∙ stand.queue_count ∙ sym same_cores;
+      queues = λ n lt. elim (cases_eq n own) [
+        | inl same ↦
+            ap (λ i. slice_index_or (slice_set m.queues own (queue ((queue_at m own).items ++ item ∷ []) (queue_at m own).depth)) i no_queue) same
+            ∙ at_set m.queues own _ no_queue (omega (arith, core, stand.queue_count))
+            ∙ ap (λ (q : Queue). queue (q.items ++ item ∷ []) q.depth) (stand.queues own core)
+            ∙ ap (λ items. queue items g.queue) (sym (queue_longer g s e cs memory retired within own ∙ (rw (yes_, eq-eqb own own refl) refl)))
+            ∙ sym (ap (λ i. queue (queue_items g then_ i) g.queue) same)
+        | inr ne ↦
+            at_other m.queues own n _ no_queue ne ∙ stand.queues n (omega (arith, lt, same_cores))
+            ∙ ap (λ items. queue items g.queue) (sym (queue_longer g s e cs memory retired within n ∙ (rw (yes_, ne_eqb own n (λ e'. ne (sym e'))) (append-nil _))))
+      ];
+      buffer_count = stand.buffer_count ∙ sym same_cores;
+      buffers = buffers_kept;
+      tags = tags_stand;
+      control = stand.control ∙ ap (λ rs. record { requests = rs; limit = g.flight }) (sym (requests_longer g s e cs memory retired within inside));
+      tally_count = length-set m.tallies own _ ∙ stand.tally_count ∙ sym same_cores;
+      tallies = λ n lt. elim (cases_eq n own) [
+        | inl same ↦ subst (λ i. TallyStands g then_ i (slice_index_or (slice_set m.tallies own (tallied (tally_at m own) item)) i no_tally)) (sym same)
+            (subst (TallyStands g then_ own) (sym (at_set m.tallies own _ no_tally (omega (arith, core, stand.tally_count)))) (tally_more (tally_at m own) yes_ (stand.tallies own core)))
+        | inr ne ↦ subst (TallyStands g then_ n) (sym (at_other m.tallies own n _ no_tally ne)) (tally_kept n (tally_at m n) (rw (yes_, ne_eqb own n (λ e'. ne (sym e'))) refl) (stand.tallies n (omega (arith, lt, same_cores))))
+      ];
+    }

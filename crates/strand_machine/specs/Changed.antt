@@ -1,0 +1,105 @@
+-- What the steps make of the parts.
+use Rattle.std.specs.Prelude.{◌≡◌, ℕ, ◌+◌, ◌-◌, ◌^◌, ◌<◌, ◌≤◌, Bool, true, false, List, [], ◌∷◌, ◌++◌, drop, length, map, replicate, slice_set, Some, None, MatchOption}
+use Rattle.std.specs.declared.option.Option.{Option}
+use Rattle.strand_inputs.specs.Settings.{Settings}
+use Rattle.strand_events.specs.Order.{held}
+use Rattle.strand_queue.specs.declared.item.Item.{Item}
+use Rattle.strand_queue.specs.declared.item.Item.TheVariants.{Persist, Barrier, NewStrand}
+use Rattle.strand_queue.specs.Queue.{Queue, queue}
+use Rattle.strand_buffer.specs.Buffers.{Buffers, accepted, begun, can_begin, empty_buffers, has_room, released, sent}
+use Rattle.strand_control.specs.declared.request.Request.{Request}
+use Rattle.strand_tags.specs.Access.{Noted}
+use Rattle.strand_tags.specs.TagsSeen.{TagsSeen, StandFor}
+use Rattle.strand_tags.specs.Traces.{leading}
+use Rattle.strand_machine.specs.Stand.{PartsSeen, Tally, queue_at, buffers_at, tally_at}
+
+-- nothing is counted yet, with room for so many persists
+abbrev pub empty_tally : ℕ → Tally
+empty_tally room = record { numbers = []; first = 0; strand = 0; room = room }
+
+-- the parts that were just made, of so many cores, with room for so many persists a core
+abbrev pub start_parts : Settings → ℕ → ℕ → TagsSeen → PartsSeen
+start_parts g count room tags = record {
+  queues = replicate count (queue [] g.queue);
+  buffers = replicate count (empty_buffers g.buffers g.ring);
+  tags = tags;
+  control = record { requests = []; limit = g.flight };
+  tallies = replicate count (empty_tally room);
+}
+
+-- how many of the persists with these numbers are durable before the first that isn't
+abbrev pub durable_first : List Bool → List ℕ → ℕ
+durable_first durable numbers = leading (map (held durable) numbers)
+
+-- there is a number, and its mark is set
+abbrev pub is_marked : List Bool → Option ℕ → Bool
+is_marked marks None = false
+is_marked marks (Some number) = held marks number
+
+-- one persist more was made, or one strand more was begun
+abbrev pub tallied : Tally → Item → Tally
+tallied c (Persist number word value epoch) = record c { numbers = c.numbers ++ number ∷ [] }
+tallied c Barrier = c
+tallied c NewStrand = record c { strand = c.strand + 1 }
+
+-- what is known of the durable persists is told
+abbrev pub advanced : Tally → List Bool → Tally
+advanced c durable = record c { first = durable_first durable c.numbers }
+
+-- core n made an item
+abbrev pub with_item : PartsSeen → ℕ → Item → PartsSeen
+with_item m n item = record m {
+  queues = slice_set m.queues n (queue ((queue_at m n).items ++ item ∷ []) (queue_at m n).depth);
+  tallies = slice_set m.tallies n (tallied (tally_at m n) item);
+}
+
+abbrev pub with_made : PartsSeen → ℕ → Option Item → PartsSeen
+with_made m n None = m
+with_made m n (Some item) = with_item m n item
+
+-- a queue has room for an item more, and it can be counted
+pub record CanQueue (q : Queue) (c : Tally) : Type 0 where
+  pub queue : length q.items < q.depth
+  pub room : length c.numbers < c.room
+  pub strand : c.strand < 2 ^ 32 - 1
+
+-- what the tags make of an access
+pub record Notes (old new : TagsSeen) (n : Noted) : Type 0 where
+  pub extents : new.extents ≡ old.extents
+  pub strands : new.strands ≡ slice_set old.strands n.access.core n.access.strand
+  pub made : new.made ≡ slice_set old.made n.access.core n.made
+  pub cores : length new.made ≡ length new.strands
+  pub stands : (ns : List Noted) → StandFor old ns → StandFor new (ns ++ n ∷ [])
+
+-- the buffers can take a dispatched item
+abbrev pub CanTake : Buffers → Item → Type 0
+CanTake bs (Persist number word value epoch) = (has_room bs ≡ true) × MatchOption bs.number (Unit {0}) (λ n. n < number) × MatchOption bs.epoch (Unit {0}) (λ e. e ≤ epoch)
+CanTake bs Barrier = Unit {0}
+CanTake bs NewStrand = (can_begin bs ≡ true) × (bs.strand < 2 ^ 32 - 1)
+
+-- what the buffers make of a dispatched item
+abbrev pub taken : Buffers → Item → Buffers
+taken bs (Persist number word value epoch) = accepted bs number word value epoch
+taken bs Barrier = bs
+taken bs NewStrand = begun bs
+
+-- core n dispatched the first item of its queue
+abbrev pub with_dispatched : PartsSeen → ℕ → Item → PartsSeen
+with_dispatched m n item = record m {
+  queues = slice_set m.queues n (queue (drop 1 (queue_at m n).items) (queue_at m n).depth);
+  buffers = slice_set m.buffers n (taken (buffers_at m n) item);
+}
+
+-- a buffer's persist was sent
+abbrev pub with_sent : PartsSeen → Request → PartsSeen
+with_sent m r = record m {
+  buffers = slice_set m.buffers r.core (sent (buffers_at m r.core) r.buffer r.number);
+  control = record m.control { requests = m.control.requests ++ r ∷ [] };
+}
+
+-- a request was written: its buffer releases its persist, and the durable persists of its core are counted
+abbrev pub with_written : PartsSeen → Request → List Bool → PartsSeen
+with_written m r durable = record m {
+  buffers = slice_set m.buffers r.core (released (buffers_at m r.core) r.buffer r.number);
+  tallies = slice_set m.tallies r.core (advanced (tally_at m r.core) durable);
+}

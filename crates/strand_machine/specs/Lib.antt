@@ -1,0 +1,7 @@
+pub mod Lists
+pub mod Stand
+pub mod Changed
+pub mod Machine
+pub mod KeptTally
+pub mod KeptParts
+pub mod KeptMachine

@@ -1,0 +1,86 @@
+// The parts before the first step.
+ghost use Rattle.std.specs.Prelude.{◌≡◌, ◌≤◌, [], IfOk, replicate};
+ghost use Rattle.strand_buffer.specs.Buffers.{empty_buffers};
+ghost use Rattle.strand_queue.specs.Queue.{queue};
+ghost use Rattle.strand_tags.specs.TagsSeen.{StandFor};
+ghost use Rattle.strand_machine.specs.Changed.{empty_tally, start_parts};
+
+use crate::parts::Parts;
+use crate::tally::CoreTally;
+use std::alloc::Global;
+use strand_base::OutOfMemory;
+use strand_buffer::StrandBuffers;
+use strand_control::Controller;
+use strand_exec::Sizes;
+use strand_inputs::Config;
+use strand_queue::PersistQueue;
+use strand_tags::Tags;
+
+// The parts of so many cores over the words of the regions, with room for so many persists a core.
+pub(crate) fn fresh_parts(
+    alloc: Global,
+    config: Config,
+    cores: u32,
+    sizes: Sizes,
+    room: u32,
+) -> Result<Parts, OutOfMemory>
+    requires { cores ≤ 8 }
+    ensures parts { IfOk result (λ m. m ≡ start_parts config cores room m.tags) }
+    ensures extents { IfOk result (λ m. m.tags.extents ≡ sizes) }
+    ensures strands { IfOk result (λ m. m.tags.strands ≡ replicate cores 0) }
+    ensures made { IfOk result (λ m. m.tags.made ≡ replicate cores 0) }
+    ensures stands { IfOk result (λ m. StandFor m.tags []) }
+{
+    let tags = Tags::new(alloc, cores, sizes)?;
+    Ok(Parts {
+        queues: fresh_queues(alloc, cores, config.queue)?,
+        buffers: fresh_buffers(alloc, cores, config.buffers, config.ring)?,
+        tags,
+        control: Controller::new(alloc, config.flight)?,
+        tallies: fresh_tallies(alloc, cores, room)?,
+    })
+}
+
+// So many empty queues of a depth.
+fn fresh_queues(alloc: Global, count: u32, depth: u32) -> Result<Vec<PersistQueue>, OutOfMemory>
+    requires some { 1 ≤ depth }
+    requires limit { depth ≤ 64 }
+    ensures { IfOk result (λ queues. queues.items ≡ replicate count (queue [] depth)) }
+{
+    let mut queues: Vec<PersistQueue> = Vec::with_capacity(alloc, count as usize)?;
+    for i in 0..count {
+        queues.push_reserved(PersistQueue::new(alloc, depth)?);
+    }
+    Ok(queues)
+}
+
+// The empty strand buffers of so many cores.
+fn fresh_buffers(
+    alloc: Global,
+    count: u32,
+    buffers: u32,
+    ring: u32,
+) -> Result<Vec<StrandBuffers>, OutOfMemory>
+    requires some { 1 ≤ buffers }
+    requires few { buffers ≤ 8 }
+    requires places { 1 ≤ ring }
+    requires small { ring ≤ 64 }
+    ensures { IfOk result (λ all. all.items ≡ replicate count (empty_buffers buffers ring)) }
+{
+    let mut all: Vec<StrandBuffers> = Vec::with_capacity(alloc, count as usize)?;
+    for i in 0..count {
+        all.push_reserved(StrandBuffers::new(alloc, buffers, ring)?);
+    }
+    Ok(all)
+}
+
+// Nothing is counted of so many cores.
+fn fresh_tallies(alloc: Global, count: u32, room: u32) -> Result<Vec<CoreTally>, OutOfMemory>
+    ensures { IfOk result (λ tallies. tallies.items ≡ replicate count (empty_tally room)) }
+{
+    let mut tallies: Vec<CoreTally> = Vec::with_capacity(alloc, count as usize)?;
+    for i in 0..count {
+        tallies.push_reserved(CoreTally::new(alloc, room)?);
+    }
+    Ok(tallies)
+}

@@ -1,0 +1,182 @@
+ghost use Rattle.std.specs.Prelude.{◌≡◌, ◌<◌, ◌≤◌, ◌^◌, ◌-◌, true, false, IfOk, IfSome, length, slice_index};
+ghost use Rattle.strand_buffer.specs.Buffers.{IsEligible, IsSent};
+ghost use Rattle.strand_control.specs.Flight.{LieInBank, Writes};
+ghost use Rattle.strand_events.specs.Trace.{is_access, is_store, word_of};
+ghost use Rattle.strand_tags.specs.Access.{access, noted_as};
+ghost use Rattle.strand_tags.specs.TagsSeen.{CanAsk};
+ghost use Rattle.strand_machine.specs.Changed.{CanQueue, CanTake, Notes, durable_first, taken, with_dispatched, with_made, with_sent, with_written};
+ghost use Rattle.strand_machine.specs.Stand.{buffers_at, queue_at, tally_at};
+ghost use Rattle.strand_modules.specs.Seen.{bank_seen};
+
+use crate::tally::CoreTally;
+use std::marker::Model;
+use strand_buffer::StrandBuffers;
+use strand_control::{Controller, Request, WriteTurn};
+use strand_events::Event;
+use strand_modules::ModuleBank;
+use strand_queue::{Item, PersistQueue};
+use strand_tags::Tags;
+
+// The queue and the buffers of each core, the tags, the controller, and what is counted of each core.
+#[derive(Drop)]
+pub(crate) struct Parts {
+    pub(crate) queues: Vec<PersistQueue>,
+    pub(crate) buffers: Vec<StrandBuffers>,
+    pub(crate) tags: Tags,
+    pub(crate) control: Controller,
+    pub(crate) tallies: Vec<CoreTally>,
+}
+
+impl Model for Parts {
+    ghost use Rattle.strand_machine.specs.Stand.{PartsSeen};
+
+    ghost Value = { PartsSeen };
+
+    ghost use Rattle.strand_machine.specs.KeptParts.{parts_of};
+
+    ghost view = { parts_of };
+}
+
+impl Parts {
+    // The queue of core n.
+    pub fn queue(&self, n: u32) -> &PersistQueue
+        requires { n < length self.now.queues }
+        ensures { result.now ≡ queue_at self.now n }
+    {
+        &self.queues[n as usize]
+    }
+
+    // The strand buffers of core n.
+    pub fn buffers(&self, n: u32) -> &StrandBuffers
+        requires { n < length self.now.buffers }
+        ensures { result.now ≡ buffers_at self.now n }
+    {
+        &self.buffers[n as usize]
+    }
+
+    // What is counted of core n.
+    pub fn tally(&self, n: u32) -> &CoreTally
+        requires { n < length self.now.tallies }
+        ensures { result.now ≡ tally_at self.now n }
+    {
+        &self.tallies[n as usize]
+    }
+
+    // The conflict tags.
+    pub fn tags(&self) -> &Tags
+        ensures { result.now ≡ self.now.tags }
+    {
+        &self.tags
+    }
+
+    // The requests in flight.
+    pub fn control(&self) -> &Controller
+        ensures { result.now ≡ self.now.control }
+    {
+        &self.control
+    }
+
+    // Core n made an event, which this item stands for if any does.
+    pub fn enqueue(&mut self, n: u32, item: Option<Item>)
+        requires queue { n < length self.old.queues }
+        requires tally { n < length self.old.tallies }
+        requires room { IfSome item (λ i. CanQueue (queue_at self.old n) (tally_at self.old n)) }
+        ensures { self.new ≡ with_made self.old n item }
+    {
+        let Some(item) = item else {
+            return;
+        };
+        let queue = &mut self.queues[n as usize];
+        queue.push(item);
+        let tally = &mut self.tallies[n as usize];
+        tally.note(item);
+    }
+
+    // Core n made an event: the tags note it where it is an access.
+    pub fn note_access(&mut self, n: u32, event: Event)
+        requires tally { n < length self.old.tallies }
+        requires access { is_access event ≡ true → CanAsk self.old.tags
+            (access n (tally_at self.old n).strand (word_of event) (is_store event)) }
+        requires made { is_access event ≡ true
+            → slice_index self.old.tags.made n ≤ length (tally_at self.old n).numbers }
+        ensures noted { is_access event ≡ true → Notes self.old.tags self.new.tags
+            (noted_as (access n (tally_at self.old n).strand (word_of event) (is_store event))
+            (length (tally_at self.old n).numbers)) }
+        ensures same { is_access event ≡ false → self.new.tags ≡ self.old.tags }
+        ensures others { self.new ≡ record self.old { tags = self.new.tags } }
+    {
+        if event.is_access() {
+            let tally = &self.tallies[n as usize];
+            let strand = tally.strand();
+            let made = tally.made();
+            self.tags
+                .note(n, strand, event.word(), event.is_store(), made);
+        }
+    }
+
+    // Core n dispatches this item, the first of its queue.
+    pub fn dispatch(&mut self, n: u32, item: Item)
+        requires queue { n < length self.old.queues }
+        requires buffers { n < length self.old.buffers }
+        requires take { CanTake (buffers_at self.old n) item }
+        ensures { self.new ≡ with_dispatched self.old n item }
+    {
+        let queue = &mut self.queues[n as usize];
+        queue.pop();
+        let buffers = &mut self.buffers[n as usize];
+        take(buffers, item);
+    }
+
+    // A buffer's persist is sent.
+    pub fn send(&mut self, r: Request)
+        requires core { r.core < length self.old.buffers }
+        requires eligible { IsEligible (buffers_at self.old r.core) r.buffer r.number }
+        requires room { length self.old.control.requests < self.old.control.limit }
+        ensures { self.new ≡ with_sent self.old r }
+    {
+        let buffers = &mut self.buffers[r.core as usize];
+        buffers.sent(r.buffer, r.number);
+        self.control.accept(r);
+    }
+
+    // The controller writes the request at place j into the bank.
+    pub fn write(&mut self, j: u32, bank: &mut ModuleBank) -> WriteTurn
+        requires { LieInBank self.old.control.requests (bank_seen holds bank.old).size }
+        ensures control { Writes self.old.control self.new.control (bank_seen holds bank.old) (bank_seen holds bank.new) j result }
+        ensures others { self.new ≡ record self.old { control = self.new.control } }
+    {
+        self.control.write(j, bank)
+    }
+
+    // The request was written, and these persists are durable now, by their numbers.
+    pub fn release(&mut self, r: Request, durable: &[bool])
+        requires buffers { r.core < length self.old.buffers }
+        requires tallies { r.core < length self.old.tallies }
+        requires sent { IsSent (buffers_at self.old r.core) r.buffer r.number }
+        requires known { (tally_at self.old r.core).first
+            ≤ durable_first durable.now (tally_at self.old r.core).numbers }
+        ensures { self.new ≡ with_written self.old r durable.now }
+    {
+        let buffers = &mut self.buffers[r.core as usize];
+        buffers.release(r.buffer, r.number);
+        let tally = &mut self.tallies[r.core as usize];
+        tally.advance(durable);
+    }
+}
+
+// A core's buffers take an item that it dispatches.
+fn take(buffers: &mut StrandBuffers, item: Item)
+    requires { CanTake buffers.old item }
+    ensures { buffers.new ≡ taken buffers.old item }
+{
+    match item {
+        Item::Persist {
+            number,
+            word,
+            value,
+            epoch,
+        } => buffers.accept(number, word, value, epoch),
+        Item::Barrier => {}
+        Item::NewStrand => buffers.begin(),
+    }
+}

@@ -1,0 +1,37 @@
+# handover.s with a barrier in place of the writer's join: it doesn't stop the core, and is there to order.
+
+.entry writer
+.entry reader
+
+writer:
+    la x2, record
+    la x3, flag
+    li x5, 0x11
+    sd x5, 0(x2)         # the payload
+    newstrand            # the index doesn't wait for it
+    li x6, 0x22
+    sd x6, 8(x2)         # the index
+    persistbarrier       # orders its own strand, which has the index alone
+    li x7, 1
+    sd x7, 0(x3)         # the flag
+    ebreak
+
+reader:
+    la x2, record
+    la x3, flag
+wait:
+    ld x7, 0(x3)
+    beq x7, x0, wait
+    persistbarrier       # the flag as it was seen, before the note
+    sd x7, 16(x2)        # the note
+    joinstrand
+    ebreak
+
+.volatile
+flag:
+    .word 0
+.persist
+record:
+    .word 0              # the payload
+    .word 0              # the index
+    .word 0              # the note

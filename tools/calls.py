@@ -1,0 +1,28 @@
+"""One call of a built program: how it ends, what it puts and says, its seconds on a processor and the memory it held.
+
+tools/fuzz, tools/hostile, tools/check-memory and the benches call the program by this.
+"""
+import os
+import subprocess
+import threading
+from collections import namedtuple
+
+# `status` is below 0 where a signal ended it; no more than `megabytes` were resident at once. The system counts those of the caller,
+# from which the new process begins, so they may be fewer.
+Called = namedtuple("Called", "status text said seconds megabytes")
+
+
+def call(command, wait=60, output=subprocess.PIPE, before=None, **given):
+    """Calls it, and ends it after so many seconds. `before` is done in the new process, before the program begins."""
+    child = subprocess.Popen(command, stdin=subprocess.DEVNULL, stdout=output, stderr=subprocess.PIPE, preexec_fn=before, **given)
+    timer = threading.Timer(wait, child.kill)
+    timer.start()
+    with child.stderr:
+        text = child.stdout.read() if child.stdout else b""
+        said = child.stderr.read()
+    _, status, used = os.wait4(child.pid, 0)
+    timer.cancel()
+    child.returncode = os.waitstatus_to_exitcode(status)
+    if child.stdout:
+        child.stdout.close()
+    return Called(child.returncode, text, said, used.ru_utime + used.ru_stime, used.ru_maxrss / 1024)
