@@ -8,6 +8,7 @@ import importlib.machinery
 import importlib.util
 import math
 import os
+import re
 import subprocess
 import sys
 import tempfile
@@ -21,12 +22,9 @@ import formats  # noqa: E402
 PROGRAM = os.path.join(TOP, "build", "strand")
 MODES = ("strict", "epoch", "strand")
 
-# The steps of long runs, and how much longer twice as many may take. The machine doesn't look back over its trace, so time grows as
-# the steps do.
-LINEAR = 2.2
+LINEAR = 2.2  # how much longer twice the size may take
 CALL = 1.0  # seconds that a call may take, whatever it is given
-RUN_STEPS = (50_000, 100_000, 200_000)
-RUN_GROWTH = LINEAR
+RUN_STEPS = (50_000, 100_000, 200_000)  # of long runs
 GRAIN = 0.002  # shorter times are told, and their growth is not compared: the start of a process and the clock count too much
 
 # What was measured of one case: seconds at rising sizes. `growth` is how much longer twice the size may take, and `most` how many
@@ -141,17 +139,18 @@ def line_of(series):
 
 
 def report(measured):
-    """Prints each line as soon as it is measured, and says whether all is within what is asked."""
-    good = True
+    """Prints each line as soon as it is measured. Gives the lines, and whether all is within what is asked."""
+    lines, good = [], True
     for series in measured:
-        print(line_of(series), flush=True)
+        lines.append(line_of(series))
+        print(lines[-1], flush=True)
         good &= not fault_of(series)
-    return good
+    return lines, good
 
 
-def loaded(name):
-    """A bench as a module."""
-    loader = importlib.machinery.SourceFileLoader(f"bench_{name}", os.path.join(TOP, "bench", name))
+def loaded(script):
+    """A bench or a tool, by its path from the top, as a module."""
+    loader = importlib.machinery.SourceFileLoader(re.sub("[^a-z]", "_", script), os.path.join(TOP, script))
     module = importlib.util.module_from_spec(importlib.util.spec_from_loader(loader.name, loader))
     loader.exec_module(module)
     return module
@@ -163,4 +162,4 @@ def main(measured, needs_program=True):
         build()
     print("\n".join(HEAD))
     with tempfile.TemporaryDirectory() as folder:
-        sys.exit(0 if report(measured(folder)) else 1)
+        sys.exit(0 if report(measured(folder))[1] else 1)

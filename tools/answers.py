@@ -1,13 +1,16 @@
 """What the program `strand` has to answer to words and files, by docs/program.md and docs/FORMATS.md.
 
-Where a file is refused, and for `asm`, `list`, `gen-image` and `gen-schedule`, that is the whole text. A report, a trace and a verdict
-are compared with the form of their lines alone. It is outside of what is proved.
+Where a file is refused, and for `asm`, `list`, `gen-image` and `gen-schedule`, that is the whole text. Of a report it is all that the
+cores did and saw, and their caches, by the steps that it tells as bubbles; the bubbles, what the modules hold and the persists are
+compared with the form of their lines alone, and so are a trace and a verdict. It is outside of what is proved.
 """
+import itertools
 import re
 
 import assembler
 import formats
 import generator
+import visible
 from formats import Refused
 
 H, N = rb"[0-9a-f]{16}", rb"(?:0|[1-9][0-9]*)"
@@ -23,7 +26,7 @@ def form(text):
 
 
 REPORT = form(rb"stop (N)\n(?:core N pc H LIFE\n(?:reg N x[1-9][0-9]? H\n)*)+(?:out N H\n)*(?:bubble N CAUSE\n)*(?:vis H H\n)*(?:pm H H\n)*"
-              rb"durable LIST\npath LIST\n(?:cache N hits N misses N\n)*")
+              rb"durable LIST\npath LIST\n(?:cache N hits N misses N\n)+")
 TRACE = form(rb"(?:event N (?:load N H|store N H H(?: persist N)?|barrier N|newstrand N|join N|out N H)\n)*(?:edge N N\n)*")
 VERDICTS = {0: form(rb"yes LIST\n"), 1: form(rb"no H N\n")}
 SUMMARY = form(rb"gen N N\npersists N\ndurable N\npath N\ndone N\njudge yes N\n")
@@ -64,6 +67,35 @@ class Formed:
         return ""
 
 
+class Report(Formed):
+    """A report of so many steps of what was found in the files."""
+
+    def __init__(self, found, stop):
+        super().__init__({0: REPORT})
+        self.found, self.stop = found, stop
+
+    def retired(self, bubbles):
+        """The cores that retired an instruction, in turn."""
+        steps = itertools.chain.from_iterable(itertools.repeat(step[:2], step[2]) for step in self.found["schedule"])
+        for number, (letter, numbers) in enumerate(itertools.islice(steps, self.stop), 1):
+            if letter == b"c" and number not in bubbles:
+                yield numbers[0]
+
+    def due(self, text):
+        """The report that is due where the bubbles, the modules' words and the persists are those that it tells."""
+        machine, lines = self.found["machine"], text.decode().splitlines()
+        seen = visible.Visible(self.found["image"], machine[b"sets"], machine[b"ways"])
+        bubbles = [line for line in lines if line.startswith("bubble ")]
+        for core in self.retired({int(line.split()[1]) for line in bubbles}):
+            seen.retire(core)
+        told = [line for line in lines if line.startswith(("pm ", "durable ", "path "))]
+        due = [f"stop {self.stop}", *seen.core_lines(), *seen.out_lines(), *bubbles, *seen.word_lines(), *told, *seen.cache_lines()]
+        return "".join(line + "\n" for line in due).encode()
+
+    def fault(self, called):
+        return super().fault(called) or Answer(0, self.due(called.text)).fault(called)
+
+
 def contents(kind, data, before):
     """What a file of this kind says, given those before it."""
     if len(data) > formats.BYTES[kind]:
@@ -87,11 +119,11 @@ def of_generated(command, words):
 
 
 def of_run(command, found, stop):
-    steps = found["schedule"]
+    steps = formats.steps_in(found["schedule"])
     stop = steps if stop == b"end" else formats.number_of(stop)
     if stop > steps:
         return Answer(9, b"fault stop %d %d\n" % (stop, steps))
-    return {"run": Formed({0: REPORT}, b"stop %d\ncore 0 " % stop), "trace": Formed({0: TRACE}), "judge": Formed(VERDICTS)}[command]
+    return {"run": Report(found, stop), "trace": Formed({0: TRACE}), "judge": Formed(VERDICTS)}[command]
 
 
 def is_command(words, commands):

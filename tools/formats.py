@@ -91,9 +91,9 @@ def step_of(words):
 
 
 def read_schedule(data, cores, buffers):
-    """How many steps it has."""
+    """Its lines: a letter, its numbers, and how often."""
     limits = {b"c": [cores], b"d": [cores], b"s": [cores, buffers, PLACES], b"w": [PLACES]}
-    steps = 0
+    found, steps = [], 0
     for at, words in lines_of(data):
         step = step_of(words)
         if step is None:
@@ -107,7 +107,13 @@ def read_schedule(data, cores, buffers):
         steps += times
         if steps > MOST_STEPS:
             raise Refused("limit", "line", at, steps)
-    return steps
+        found.append(step)
+    return found
+
+
+def steps_in(schedule):
+    """How many steps a schedule's lines stand for."""
+    return sum(times for _, _, times in schedule)
 
 
 def read_image(data):

@@ -68,6 +68,5 @@ def cores_of(report):
 
 
 def cache_of(report):
-    """The hits and misses of all caches, or None where the report has no `cache` lines."""
-    counts = [tuple(map(int, line.split()[3:6:2])) for line in report if line.startswith("cache ")]
-    return tuple(map(sum, zip(*counts))) or None
+    """Each core's hits and misses."""
+    return [tuple(map(int, line.split()[3:6:2])) for line in report if line.startswith("cache ")]

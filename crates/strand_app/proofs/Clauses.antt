@@ -95,7 +95,7 @@ module _ (r : Rule) (W : Type 0) (sound : Sound r W) (before after : Outside) wh
     pub made : ComesTo r before.world after.world result text
     pub taken : Takes before.sink.taken after.sink.taken text
 
-  came : (result : Status) → (result ≡ status.Memory → ⊥) → (result ≡ status.SinkFault → ⊥) → Runs r before after result → Came result
+  pub came : (result : Status) → (result ≡ status.Memory → ⊥) → (result ≡ status.SinkFault → ⊥) → Runs r before after result → Came result
   came result memory sink (inl up) = absurd (memory up.status)
   came result memory sink (inr ends) = go ends.put
     where

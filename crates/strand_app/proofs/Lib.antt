@@ -9,4 +9,5 @@ pub mod Summary
 pub mod Laws
 pub mod RuleLaws
 pub mod Clauses
+pub mod Afterwards
 pub mod Calls

@@ -83,23 +83,6 @@ module _ (u : Inputs) (before after : BankSeen) where
   may_of (Ok x) end runs = tt
   may_of (Err e) end runs = (runs.kept, may_leave u (length before.faults) runs.fault before after runs.allowed runs.leaves)
 
-  -- any answer of a refusal is one whatever a run tells that met none
-  any_puts : (Puts : Status → Text → Type 0) (fault : Course) (end : Status) (text : Text) → PutsRun u before (λ e t. ⊥) fault end text → PutsRun u before Puts fault end text
-  any_puts Puts (fill m) end text puts = puts
-  any_puts Puts (ran store (Some n)) end text puts = puts
-  any_puts Puts (ran (Some f) None) end text puts = puts
-  any_puts Puts (ran None None) end text puts = absurd puts
-
-  pub puts_refused : (Puts : Status → Text → Type 0) (made : Made) → RunsOnBank u before after (Refused made) → PutsOnBank u before after Puts made
-  puts_refused Puts made runs = record {
-    fault = runs.fault;
-    allowed = runs.allowed;
-    shown = runs.shown;
-    kept = runs.kept;
-    leaves = runs.leaves;
-    puts = any_puts Puts runs.fault made.status made.text.items runs.is;
-  }
-
   pub puts_whole : (Puts : Status → Text → Type 0) (r : Run) (made : Made) → RunsOnBank u before after (Whole r) → Puts made.status made.text.items → PutsOnBank u before after Puts made
   puts_whole Puts r made runs puts = record {
     fault = runs.fault;

@@ -10,6 +10,7 @@ pub mod Runs
 pub mod Tells
 pub mod Causes
 pub mod Completeness
+pub mod Afterwards
 pub mod Still
 pub mod NoCommand
 pub mod Machine

@@ -1,5 +1,6 @@
 ghost use Rattle.std.specs.Prelude.{◌≡◌, ◌≢◌, IfOk, OnErr};
 ghost use Rattle.std.specs.Prelude.{None, Some};
+ghost use Rattle.strand_app.specs.Afterwards.{Afterwards};
 ghost use Rattle.strand_app.specs.Causes.{FileCause, ModuleCause, RefusalCause, SinkCause};
 ghost use Rattle.strand_app.specs.Causes.{AnswersRefusal, IsPutWhole, IsRefused, MemoryCause};
 ghost use Rattle.strand_app.specs.CommandView.{asked, asked_rule, view};
@@ -71,6 +72,11 @@ pub fn strand_main<F: Files, K: Sink>(
     // However the call ends, what its steps left in the bank is an image that persist order allows;
     // a refused fill leaves a part of the first words, and a call that ran nothing what was there.
     ensures crash { Holds (asked_rule words.now (bank_seen holds bank.old))
+        (outside (F.seen files.old) (bank_seen holds bank.old) (K.seen out.old))
+        (outside (F.seen files.new) (bank_seen holds bank.new) (K.seen out.new)) result }
+
+    // What the bank holds, by the status: what it held at entry, a part of the fill, or the image after some steps.
+    ensures afterwards { Afterwards (asked_rule words.now (bank_seen holds bank.old))
         (outside (F.seen files.old) (bank_seen holds bank.old) (K.seen out.old))
         (outside (F.seen files.new) (bank_seen holds bank.new) (K.seen out.new)) result }
 

@@ -112,8 +112,9 @@ impl Hierarchy {
         seen
     }
 
-    /// A word of the flat memory: that of the line's changed copy, else the backing word.
-    pub(crate) fn peek(&self, word: u64) -> u64
+    /// A word of the flat memory, which is named by its address: that of the line's changed copy, else the
+    /// backing word. It is no access.
+    pub fn word(&self, word: u64) -> u64
         requires { IsWord (extents_of self.now.memory) word }
         ensures { result ≡ word_in self.now.memory word }
     {
@@ -135,7 +136,7 @@ impl Hierarchy {
     {
         let mut words = Vec::with_capacity(self.alloc, count)?;
         for i in 0..count {
-            words.push(self.peek(base + 8 * i as u64))?;
+            words.push(self.word(base + 8 * i as u64))?;
         }
         Ok(words)
     }
@@ -153,6 +154,13 @@ impl Hierarchy {
             volatile,
             persistent,
         })
+    }
+
+    /// How many accesses of each core hit and missed.
+    pub fn all_counts(&self) -> &[Counts]
+        ensures { result.now ≡ self.now.counts }
+    {
+        &self.counts
     }
 
     /// How many accesses of a core hit and missed.

@@ -5,6 +5,7 @@ use Rattle.std.specs.Option.{option_map}
 use Rattle.std.specs.declared.option.Option.{Option}
 use Rattle.std.proofs.lemmas.Bool.{cases_Bool}
 use Rattle.std.proofs.lemmas.Option.{none-some, same_Some}
+use Rattle.strand_exec.specs.Memory.{extents_of}
 use Rattle.strand_inputs.specs.Settings.{Settings}
 use Rattle.strand_inputs.specs.declared.step.Step.TheVariants.{Dispatch}
 use Rattle.strand_events.specs.Trace.{is_persist, is_barrier, event_is, epoch, persists_of}
@@ -22,6 +23,9 @@ use Rattle.strand_rules.specs.declared.turn.Cause.{Cause}
 use Rattle.strand_buffer.specs.Buffers.{Buffers, has_room, can_begin}
 use Rattle.strand_queue.specs.declared.item.Item.{Item}
 use Rattle.strand_queue.specs.declared.item.Item.TheVariants.{Persist, Barrier, NewStrand}
+use Rattle.strand_rules.proofs.WithMemory.{kept_with}
+use Rattle.strand_machine.specs.declared.machine.Machine.TheInside.{Inside}
+use Rattle.strand_machine.specs.KeptMachine.{IsHeld, seen}
 use Rattle.strand_machine.specs.Lists.{persist_number}
 use Rattle.strand_machine.specs.Machine.{RingMachine, PartsStand}
 use Rattle.strand_machine.specs.Changed.{CanTake, with_dispatched}
@@ -42,6 +46,17 @@ pub record Holds (r : RingMachine) : Type 0 where
   pub buffers : 0 < r.machine.config.buffers
   pub stand : PartsStand r
   pub rooms : HasRooms r.machine r.parts
+  pub extents : extents_of r.machine.state.now.memory ≡ r.machine.program.sizes
+
+pub holds_inside : (m : Inside) → IsHeld m → IsKept m.pipeline → 0 < m.pipeline.config.buffers → Holds (seen m)
+holds_inside m is kept buffers = record {
+  reached = is.reached;
+  kept = kept_with m.parts.cache.memory m.pipeline kept;
+  buffers = buffers;
+  stand = is.stand;
+  rooms = is.rooms;
+  extents = is.extents;
+}
 
 -- whether the buffers let an item be dispatched
 abbrev pub decided : Buffers → Item → Turn

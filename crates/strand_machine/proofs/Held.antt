@@ -6,8 +6,12 @@ use Rattle.std.proofs.lemmas.List.{get_or-set_same, get_or-set_other}
 use Rattle.strand_inputs.specs.declared.step.Step.{Step}
 use Rattle.strand_rules.specs.declared.turn.Cause.{Cause}
 use Rattle.strand_rules.specs.declared.turn.Turn.TheVariants.{Done, Bubble}
-use Rattle.strand_rules.specs.Cycle.{State, turn, done_after, after_turn}
+use Rattle.strand_exec.specs.Memory.{extents_of}
+use Rattle.strand_rules.specs.Cycle.{IsReached, State, turn, done_after, after_turn}
 use Rattle.strand_rules.specs.Machine.{Machine, made_to, stepped}
+use Rattle.strand_rules.specs.Pipeline.{with_memory}
+use Rattle.strand_machine.specs.KeptMachine.{IsHeld}
+use Rattle.strand_machine.specs.Machine.{RingMachine}
 use Rattle.strand_machine.specs.Stand.{PartsSeen, Stand, Tally, no_tally, tally_at}
 
 abbrev pub Stands : Machine → PartsSeen → Type 0
@@ -23,6 +27,21 @@ module _ (m m' : Machine) (s : State) (parts parts' now : PartsSeen) (e : m' ≡
 
   pub rooms_moved : HasRooms (made_to m s) now → HasRooms m' parts'
   rooms_moved rooms = subst (HasRooms m') (sym e') (subst (λ m. HasRooms m now) (sym e) rooms)
+
+-- what the fields keep, where the machine has moved on to a state and the parts have moved on too
+pub held_moved : (r : RingMachine) (s : State) (m : Machine) (parts now : PartsSeen) → with_memory parts.cache.memory m ≡ made_to r.machine s → parts ≡ now
+    → Stand r.machine.config r.machine.program.sizes s now → HasRooms (made_to r.machine s) now → IsReached r.machine.config r.machine.program s → extents_of now.cache.memory ≡ r.machine.program.sizes
+    → IsHeld (record { pipeline = m; parts = parts })
+held_moved r s m parts now is parts_are stand rooms reached extents = record {
+  stand = stand_moved r.machine (with_memory parts.cache.memory m) s r.parts parts now is parts_are stand;
+  rooms = rooms_moved r.machine (with_memory parts.cache.memory m) s r.parts parts now is parts_are rooms;
+  reached = subst (λ (m : Machine). IsReached m.config m.program m.state) (sym is) reached;
+  extents = ap (λ (p : PartsSeen). extents_of p.cache.memory) parts_are ∙ extents ∙ sym (ap (λ (m : Machine). m.program.sizes) is);
+}
+
+-- parts that stay but for a controller that stays too
+pub parts_stay : (m parts : PartsSeen) → parts ≡ record m { control = parts.control } → parts.control ≡ m.control → parts ≡ m
+parts_stay m parts others same = others ∙ ap (λ f. record m { control = f }) same
 
 -- a core's counts that keep their room
 pub rooms_with : (m : Machine) (parts : PartsSeen) (c : ℕ) (tally : Tally) → length parts.tallies ≡ length m.state.now.cores → tally.room ≡ (tally_at parts c).room → HasRooms m parts

@@ -1,4 +1,5 @@
 pub mod Opened
+pub mod Caching
 pub mod Growth
 pub mod ItemKinds
 pub mod Tallying

@@ -28,6 +28,8 @@ use Rattle.strand_queue.specs.declared.item.Item.TheVariants.{Persist, Barrier, 
 use Rattle.strand_tags.specs.Access.{access, noted_as}
 use Rattle.strand_tags.specs.TagsSeen.{TagsSeen, CanAsk}
 use Rattle.strand_tags.specs.Traces.{core_persists, made_below}
+use Rattle.strand_cache.specs.Seen.{Seen}
+use Rattle.strand_machine.specs.Cached.{CacheStands}
 use Rattle.strand_machine.specs.Changed.{Notes, tallied, with_made}
 use Rattle.strand_machine.specs.Lists.{persist_number}
 use Rattle.strand_machine.specs.Machine.{FitsCore, RingMachine}
@@ -148,7 +150,8 @@ module _ (r : RingMachine) (e : Event) (is : IsNext r (core_of e) e) where
 
   module _ (tags : TagsSeen)
       (noted : is_access e ≡ true → Notes r.parts.tags tags (noted_as (access n (tally_at (with_made r.parts n (made_of g.mode t e)) n).strand (word_of e) (is_store e)) (length (tally_at (with_made r.parts n (made_of g.mode t e)) n).numbers)))
-      (same : is_access e ≡ false → tags ≡ r.parts.tags) where
+      (same : is_access e ≡ false → tags ≡ r.parts.tags)
+      (cache : Seen) (cached : CacheStands g (core_after r.machine.program s n (Some e)) cache) where
     tags_stand : TagsStand g x then_ tags
     tags_stand = elim (cases_Bool (is_access e)) [
       | inl yes_ ↦
@@ -161,12 +164,15 @@ module _ (r : RingMachine) (e : Event) (is : IsNext r (core_of e) e) where
       | inr no_ ↦ subst (TagsStand g x then_) (sym (same no_)) (tags_same g s e v.cores v.memory retired within x same_cores r.parts.tags is.holds.stand.tags no_)
     ]
 
-    pub own_stand : Stand g x (core_after r.machine.program s n (Some e)) (record (with_made r.parts n (made_of g.mode t e)) { tags = tags })
-    own_stand = subst (λ s. Stand g x s (record (with_made r.parts n (made_of g.mode t e)) { tags = tags })) (sym after_is) (elim (cases_Bool (is_item g.mode e)) [
-      | inl yes_ ↦ subst (λ b. Stand g x then_ (record (with_made r.parts n (if b then Some item else None)) { tags = tags })) (sym yes_)
-          (stand_item g s e v.cores v.memory retired within is.holds.kept.durable x r.parts tags is.holds.stand same_cores inside tags_stand yes_ is.there)
-      | inr no_ ↦ subst (λ b. Stand g x then_ (record (with_made r.parts n (if b then Some item else None)) { tags = tags })) (sym no_)
-          (stand_other g s e v.cores v.memory retired within is.holds.kept.durable x r.parts tags is.holds.stand same_cores inside tags_stand no_)
+    cache_stand : CacheStands g then_ cache
+    cache_stand = subst (λ s. CacheStands g s cache) after_is cached
+
+    pub own_stand : Stand g x (core_after r.machine.program s n (Some e)) (record (with_made r.parts n (made_of g.mode t e)) { tags = tags; cache = cache })
+    own_stand = subst (λ s. Stand g x s (record (with_made r.parts n (made_of g.mode t e)) { tags = tags; cache = cache })) (sym after_is) (elim (cases_Bool (is_item g.mode e)) [
+      | inl yes_ ↦ subst (λ b. Stand g x then_ (record (with_made r.parts n (if b then Some item else None)) { tags = tags; cache = cache })) (sym yes_)
+          (stand_item g s e v.cores v.memory retired within is.holds.kept.durable x r.parts tags cache is.holds.stand same_cores inside tags_stand cache_stand yes_ is.there)
+      | inr no_ ↦ subst (λ b. Stand g x then_ (record (with_made r.parts n (if b then Some item else None)) { tags = tags; cache = cache })) (sym no_)
+          (stand_other g s e v.cores v.memory retired within is.holds.kept.durable x r.parts tags cache is.holds.stand same_cores inside tags_stand cache_stand no_)
     ])
 
 -- the room for what is counted stays

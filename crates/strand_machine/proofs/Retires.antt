@@ -1,5 +1,5 @@
 -- The parts after a core retired its instruction.
-use Rattle.std.proofs.Common.{◌≡◌, ℕ, ◌-◌, ◌<◌, ◌≤◌, Bool, true, false, ◌&&◌, inl, inr, List, [], ◌∷◌, ◌++◌, length, sym, ap, subst, ◌∙◌, arith}
+use Rattle.std.proofs.Common.{◌≡◌, ℕ, ◌-◌, ◌<◌, ◌≤◌, Bool, true, false, ◌&&◌, inl, inr, List, [], ◌∷◌, ◌++◌, length, refl, sym, ap, subst, ◌∙◌, arith}
 use Rattle.std.specs.Prelude.{◌==◌, slice_get, slice_index, Some, None, IfSome, if◌then◌else◌}
 use Rattle.std.specs.declared.option.Option.{Option}
 use Rattle.std.proofs.lemmas.Bool.{cases_Bool, cases_eq, eq-eqb, both_ways}
@@ -12,10 +12,13 @@ use Rattle.strand_events.specs.Trace.{core_of, word_of, is_access, is_store, is_
 use Rattle.strand_events.proofs.Kept.{count_most}
 use Rattle.strand_rules.specs.declared.turn.Cause.TheVariants as causes
 use Rattle.strand_rules.specs.declared.turn.Turn.TheVariants.{Done, Bubble}
-use Rattle.strand_rules.specs.Visible.{event_of, grown, next_plan, plan_by, plan_in}
+use Rattle.strand_rules.specs.Visible.{event_of, grown, loaded, memory_after, next_plan, plan_by, plan_in}
+use Rattle.strand_rules.specs.Pipeline.{IsReachedWithSome, retired_to, with_memory}
+use Rattle.strand_rules.proofs.Retiring.{retired_reached, retires}
 use Rattle.strand_rules.specs.Cycle.{IsReached, State, is_item, join_waits, made_turn, must_wait, queued, core_after, event_in, next_event}
 use Rattle.strand_rules.specs.Machine.{Machine, Runs, made_to}
-use Rattle.strand_exec.specs.Plan.{asked, plan_of}
+use Rattle.strand_exec.specs.Memory.{extents_of}
+use Rattle.strand_exec.specs.Plan.{IsPlaced, asked, plan_of}
 use Rattle.strand_exec.specs.declared.effect.Effect.{Effect}
 use Rattle.strand_exec.specs.declared.planned.Plan.{Plan}
 use Rattle.strand_events.specs.Order.{held}
@@ -29,12 +32,17 @@ use Rattle.strand_queue.specs.Queue.{Queue}
 use Rattle.strand_tags.specs.Access.{access, noted_as}
 use Rattle.strand_tags.specs.TagsSeen.{TagsSeen, CanAsk}
 use Rattle.strand_tags.specs.Traces.{core_persists}
-use Rattle.strand_machine.specs.Changed.{CanQueue, Notes, with_made}
+use Rattle.strand_cache.specs.Seen.{Seen}
+use Rattle.strand_machine.specs.Cached.{CacheStands}
+use Rattle.strand_machine.specs.Changed.{CanQueue, GoesThrough, Notes, with_made}
+use Rattle.strand_machine.specs.declared.machine.Machine.TheInside.{Inside}
+use Rattle.strand_machine.specs.KeptMachine.{IsHeld, seen}
 use Rattle.strand_machine.specs.Machine.{FitsCore, RingMachine}
 use Rattle.strand_machine.specs.Stand.{PartsSeen, Stand, newest_item, queue_at, tally_at}
+use Rattle.strand_machine.proofs.Caching.{cache_after, retired_memory}
 use Rattle.strand_machine.proofs.Fronts.{Holds}
 use Rattle.strand_machine.proofs.Growth.{next_most}
-use Rattle.strand_machine.proofs.Held.{HasRooms, Stands, rooms_moved, stand_moved}
+use Rattle.strand_machine.proofs.Held.{HasRooms, held_moved}
 use Rattle.strand_machine.proofs.Queued.{queued_by_queue}
 use Rattle.strand_machine.proofs.NextEvent.{IsNext, made_of, made_tags, newest_is, own_asks, own_counts, own_stand, rooms_made}
 
@@ -49,6 +57,7 @@ pub record Retiring (r : RingMachine) (n : ℕ) (request : Plan) (o : Option Eve
   pub holds : Holds r
   pub there : n < length r.machine.state.now.cores
   pub asks : next_plan r.machine.program r.machine.state.now n ≡ Some request
+  pub placed : IsPlaced r.machine.program.sizes request
   pub event : o ≡ event_of n r.machine.state.now.memory request
   pub fits : IfSome o (FitsCore r.machine.program.sizes n)
   pub done : made_turn r.machine.config r.machine.state n o ≡ Done
@@ -56,12 +65,13 @@ pub record Retiring (r : RingMachine) (n : ℕ) (request : Plan) (o : Option Eve
 
 -- what is required of the machine, for the fields
 pub retiring_inside : (inside r : RingMachine) (n : ℕ) (effect : Effect) (request : Plan) (o : Option Event) → inside ≡ r → Holds inside → n < length r.machine.state.now.cores
-    → Runs r.machine n effect → request ≡ asked effect → o ≡ event_of n r.machine.state.now.memory request → IfSome o (FitsCore r.machine.program.sizes n)
+    → Runs r.machine n effect → request ≡ asked effect → IsPlaced r.machine.program.sizes request → o ≡ event_of n r.machine.state.now.memory request → IfSome o (FitsCore r.machine.program.sizes n)
     → made_turn r.machine.config r.machine.state n o ≡ Done → r.machine.made < r.machine.steps → Retiring inside n request o
-retiring_inside inside r n effect request o same holds there runs asks event fits done room = subst (λ r. Retiring r n request o) (sym same) (record {
+retiring_inside inside r n effect request o same holds there runs asks placed event fits done room = subst (λ r. Retiring r n request o) (sym same) (record {
   holds = subst Holds same holds;
   there = there;
   asks = running_plan r.machine n effect request runs asks;
+  placed = placed;
   event = event;
   fits = fits;
   done = done;
@@ -83,10 +93,42 @@ module _ (r : RingMachine) (n : ℕ) (request : Plan) (o : Option Event) (step :
     next = event_next ∙ same;
   }
 
+  -- its access can be made
+  pub cache_core : n < r.parts.cache.cores
+  cache_core = omega (arith, step.there, step.holds.stand.cache.cores)
+
+  pub cache_placed : IsPlaced (extents_of r.parts.cache.memory) request
+  cache_placed =
+      let sizes = ap extents_of step.holds.stand.cache.memory ∙ step.holds.extents in
+      subst (λ x. IsPlaced x request) (sym sizes) step.placed
+
+  -- and the caches that it went through stand for the state after it
+  pub cache_stands : (cache : Seen) → GoesThrough r.parts.cache cache n request → CacheStands r.machine.config (core_after r.machine.program r.machine.state n o) cache
+  cache_stands cache made =
+      let kept = step.holds.kept in
+      let s = r.machine.state in
+      cache_after r.machine.config s (core_after r.machine.program s n o) r.parts.cache cache n step.holds.stand.cache step.there (omega (arith, kept.few_events, kept.made_within, kept.few_steps))
+      (retired_cores r.machine.program s.now n) request made (retired_memory r.machine.program s.now n request step.asks)
+      (retired_trace r.machine.program s.now n ∙ ap (grown s.now.trace) (event_next ∙ step.event))
+
   pub none_next : o ≡ None → next_event r.machine.program r.machine.state.now n ≡ None
   none_next same = event_next ∙ same
 
--- an instruction without an event leaves the parts
+-- The pipeline that retired an instruction, with the caches' memory after it, is the machine of the rules after it.
+module _ (inside : Inside) (n : ℕ) (effect : Effect) (request : Plan) (o : Option Event) (step : Retiring (seen inside) n request o) (runs : Runs inside.pipeline n effect) (asks : request ≡ asked effect)
+    (cache : Seen) (through : GoesThrough inside.parts.cache cache n request) (word : ℕ) (found : word ≡ loaded inside.parts.cache.memory request) where
+  abbrev m : Machine
+  m = (seen inside).machine
+
+  pub retired_comes : IsReachedWithSome m.config m.program (retired_to inside.pipeline.state n effect o word)
+  retired_comes = retired_reached inside.parts.cache.memory inside.pipeline n effect request o word runs asks step.event found (retiring_reached (seen inside) n request o step)
+
+  pub retired_is : (p : Machine) → p ≡ made_to inside.pipeline (retired_to inside.pipeline.state n effect o word) → with_memory cache.memory p ≡ made_to m (core_after m.program m.state n o)
+  retired_is p is =
+      let memory : cache.memory ≡ memory_after m.state.now.memory request = (cache_stands (seen inside) n request o step cache through).memory ∙ retired_memory m.program m.state.now n request step.asks in
+      ap (λ y. with_memory y p) memory ∙ ap (with_memory (memory_after m.state.now.memory request)) is ∙ retires inside.parts.cache.memory inside.pipeline n effect request o word runs asks step.event found
+
+-- an instruction without an event leaves the parts but for the caches
 module _ (r : RingMachine) (holds : Holds r) (n : ℕ) (next : next_event r.machine.program r.machine.state.now n ≡ None) where
   abbrev quiet : State
   quiet = core_after r.machine.program r.machine.state n None
@@ -94,9 +136,15 @@ module _ (r : RingMachine) (holds : Holds r) (n : ℕ) (next : next_event r.mach
   quiet_cores : length quiet.now.cores ≡ length r.machine.state.now.cores
   quiet_cores = retired_cores r.machine.program r.machine.state.now n
 
-  pub stand_quiet : Stand r.machine.config r.machine.program.sizes quiet r.parts
-  stand_quiet = subst (λ (t : List Event). Stand r.machine.config r.machine.program.sizes (record quiet { now = record quiet.now { trace = t } }) r.parts)
-      (sym (retired_trace r.machine.program r.machine.state.now n ∙ ap (grown r.machine.state.now.trace) next)) (record {
+  abbrev with_trace : List Event → State
+  with_trace t = record quiet { now = record quiet.now { trace = t } }
+
+  same_trace : quiet.now.trace ≡ r.machine.state.now.trace
+  same_trace = retired_trace r.machine.program r.machine.state.now n ∙ ap (grown r.machine.state.now.trace) next
+
+  pub stand_quiet : (cache : Seen) → CacheStands r.machine.config quiet cache → Stand r.machine.config r.machine.program.sizes quiet (record r.parts { cache = cache })
+  stand_quiet cache cached = subst (λ t. Stand r.machine.config r.machine.program.sizes (with_trace t) (record r.parts { cache = cache }))
+      (sym same_trace) (record {
         queue_count = holds.stand.queue_count ∙ sym quiet_cores;
         queues = λ i lt. holds.stand.queues i (omega (arith, lt, quiet_cores));
         buffer_count = holds.stand.buffer_count ∙ sym quiet_cores;
@@ -111,6 +159,7 @@ module _ (r : RingMachine) (holds : Holds r) (n : ℕ) (next : next_event r.mach
         control = holds.stand.control;
         tally_count = holds.stand.tally_count ∙ sym quiet_cores;
         tallies = λ i lt. (let c = holds.stand.tallies i (omega (arith, lt, quiet_cores)) in record { numbers = c.numbers; first = c.first; strand = c.strand });
+        cache = subst (λ t. CacheStands r.machine.config (with_trace t) cache) same_trace cached;
       })
 
   pub rooms_quiet : HasRooms (made_to r.machine quiet) r.parts
@@ -151,9 +200,6 @@ module _ (r : RingMachine) (n : ℕ) (e : Event) (is : IsNext r n e) (plain : Ma
   abbrev trace : List Event
   trace = r.machine.state.now.trace
 
-  abbrev made_item : Option Item
-  made_item = made_of r.machine.config.mode trace e
-
   trace_is : plain.state.now.trace ≡ trace ++ e ∷ []
   trace_is = ap (λ (m : Machine). m.state.now.trace) moved ∙ retired_trace r.machine.program r.machine.state.now n ∙ ap (grown trace) is.next
 
@@ -169,56 +215,75 @@ module _ (r : RingMachine) (n : ℕ) (e : Event) (is : IsNext r n e) (plain : Ma
       newest ∙ ap (newest_item mode) (same_events ∙ trace_is) ∙ newest_is mode trace e
       ∙ ap (λ mode. made_of mode trace e) (same_mode ∙ ap (λ (m : Machine). m.config.mode) moved)
 
-  module _ (new : Option Item) (made_is : new ≡ made_item) (parts : PartsSeen) (made_parts : parts ≡ with_made r.parts n new) where
-    own : core_of e ≡ n
-    own = is.fits.core
+-- The caches stand for the state with the event, and its item is in its core's queue.
+pub record Enqueued (r : RingMachine) (n : ℕ) (e : Event) (cache : Seen) (parts : PartsSeen) : Type 0 where
+  pub next : IsNext r n e
+  pub cached : CacheStands r.machine.config (core_after r.machine.program r.machine.state n (Some e)) cache
+  pub parts_are : parts ≡ record (with_made r.parts n (made_of r.machine.config.mode r.machine.state.now.trace e)) { cache = cache }
 
-    own_is : IsNext r (core_of e) e
-    own_is = subst (λ n. IsNext r n e) (sym own) is
+with_made_cached : (m : PartsSeen) (cache : Seen) (n : ℕ) (o : Option Item) → with_made (record m { cache = cache }) n o ≡ record (with_made m n o) { cache = cache }
+with_made_cached m cache n None = refl
+with_made_cached m cache n (Some item) = refl
 
-    abbrev with_own : PartsSeen
-    with_own = with_made r.parts (core_of e) made_item
+-- the parts that the caches and then the queue made
+pub made_parts : (m before parts : PartsSeen) (cache : Seen) (n : ℕ) (o made : Option Item) → before ≡ record m { cache = cache } → parts ≡ with_made before n o → o ≡ made → parts ≡ record (with_made m n made) { cache = cache }
+made_parts m before parts cache n o made before_is is made_is =
+    is ∙ ap (λ p. with_made p n o) before_is ∙ with_made_cached m cache n o ∙ ap (λ o. record (with_made m n o) { cache = cache }) made_is
 
-    parts_is : parts ≡ with_own
-    parts_is = made_parts ∙ ap (with_made r.parts n) made_is ∙ ap (λ n. with_made r.parts n made_item) (sym own)
+module _ (r : RingMachine) (n : ℕ) (e : Event) (cache : Seen) (parts : PartsSeen) (queued : Enqueued r n e cache parts) where
+  own : core_of e ≡ n
+  own = queued.next.fits.core
 
-    tags_is : parts.tags ≡ r.parts.tags
-    tags_is = ap (λ (p : PartsSeen). p.tags) made_parts ∙ made_tags r.parts n new
+  own_is : IsNext r (core_of e) e
+  own_is = subst (λ n. IsNext r n e) (sym own) queued.next
 
-    -- an access can be asked of the tags and noted
-    pub asks : is_access e ≡ true → CanAsk parts.tags (access n (tally_at parts n).strand (word_of e) (is_store e))
-    asks yes_ = subst (λ n. CanAsk parts.tags (access n (tally_at parts n).strand (word_of e) (is_store e))) own
-        (subst (λ (p : PartsSeen). CanAsk parts.tags (access (core_of e) (tally_at p (core_of e)).strand (word_of e) (is_store e))) (sym parts_is)
-        (subst (λ tags. CanAsk tags (access (core_of e) (tally_at with_own (core_of e)).strand (word_of e) (is_store e))) (sym tags_is) (own_asks r e own_is yes_)))
+  abbrev made_item : Option Item
+  made_item = made_of r.machine.config.mode r.machine.state.now.trace e
 
-    pub counts : slice_index parts.tags.made n ≤ length (tally_at parts n).numbers
-    counts = subst (λ n. slice_index parts.tags.made n ≤ length (tally_at parts n).numbers) own
-        (subst (λ (p : PartsSeen). slice_index parts.tags.made (core_of e) ≤ length (tally_at p (core_of e)).numbers) (sym parts_is)
-        (subst (λ (tags : TagsSeen). slice_index tags.made (core_of e) ≤ length (tally_at with_own (core_of e)).numbers) (sym tags_is) (own_counts r e own_is)))
+  abbrev with_own : PartsSeen
+  with_own = record (with_made r.parts (core_of e) made_item) { cache = cache }
 
-    module _ (now : PartsSeen)
-        (noted : is_access e ≡ true → Notes parts.tags now.tags (noted_as (access n (tally_at parts n).strand (word_of e) (is_store e)) (length (tally_at parts n).numbers)))
-        (same : is_access e ≡ false → now.tags ≡ parts.tags) (others : now ≡ record parts { tags = now.tags }) where
-      own_noted : is_access e ≡ true → Notes r.parts.tags now.tags (noted_as (access (core_of e) (tally_at with_own (core_of e)).strand (word_of e) (is_store e)) (length (tally_at with_own (core_of e)).numbers))
-      own_noted yes_ = subst (λ tags. Notes tags now.tags (noted_as (access (core_of e) (tally_at with_own (core_of e)).strand (word_of e) (is_store e)) (length (tally_at with_own (core_of e)).numbers))) tags_is
-          (subst (λ (p : PartsSeen). Notes parts.tags now.tags (noted_as (access (core_of e) (tally_at p (core_of e)).strand (word_of e) (is_store e)) (length (tally_at p (core_of e)).numbers))) parts_is
-          (subst (λ n. Notes parts.tags now.tags (noted_as (access n (tally_at parts n).strand (word_of e) (is_store e)) (length (tally_at parts n).numbers))) (sym own) (noted yes_)))
+  parts_is : parts ≡ with_own
+  parts_is = queued.parts_are ∙ ap (λ n. record (with_made r.parts n made_item) { cache = cache }) (sym own)
 
-      now_is : now ≡ record with_own { tags = now.tags }
-      now_is = others ∙ ap (λ (p : PartsSeen). record p { tags = now.tags }) parts_is
+  tags_is : parts.tags ≡ r.parts.tags
+  tags_is = ap (λ (p : PartsSeen). p.tags) parts_is ∙ made_tags r.parts (core_of e) made_item
 
-      abbrev after_ : State
-      after_ = core_after r.machine.program r.machine.state n (Some e)
+  -- an access can be asked of the tags and noted
+  pub asks : is_access e ≡ true → CanAsk parts.tags (access n (tally_at parts n).strand (word_of e) (is_store e))
+  asks yes_ = subst (λ n. CanAsk parts.tags (access n (tally_at parts n).strand (word_of e) (is_store e))) own
+      (subst (λ (p : PartsSeen). CanAsk parts.tags (access (core_of e) (tally_at p (core_of e)).strand (word_of e) (is_store e))) (sym parts_is)
+      (subst (λ tags. CanAsk tags (access (core_of e) (tally_at with_own (core_of e)).strand (word_of e) (is_store e))) (sym tags_is) (own_asks r e own_is yes_)))
 
-      -- the parts stand for the state after it
-      pub stand_retired : Stands plain now
-      stand_retired = stand_moved r.machine plain after_ r.parts now (record with_own { tags = now.tags }) moved now_is
-          (subst (λ n. Stand r.machine.config r.machine.program.sizes (core_after r.machine.program r.machine.state n (Some e)) (record with_own { tags = now.tags })) own
-          (own_stand r e own_is now.tags own_noted (λ no_. same no_ ∙ tags_is)))
+  pub counts : slice_index parts.tags.made n ≤ length (tally_at parts n).numbers
+  counts = subst (λ n. slice_index parts.tags.made n ≤ length (tally_at parts n).numbers) own
+      (subst (λ (p : PartsSeen). slice_index parts.tags.made (core_of e) ≤ length (tally_at p (core_of e)).numbers) (sym parts_is)
+      (subst (λ (tags : TagsSeen). slice_index tags.made (core_of e) ≤ length (tally_at with_own (core_of e)).numbers) (sym tags_is) (own_counts r e own_is)))
 
-      -- and the room for what is counted stays
-      pub rooms_retired : HasRooms plain now
-      rooms_retired =
-          let count = retired_cores r.machine.program r.machine.state.now n in
-          rooms_moved r.machine plain after_ r.parts now (record with_own { tags = now.tags }) moved now_is
-          (rooms_made (made_to r.machine after_) r.parts (core_of e) made_item (is.holds.stand.tally_count ∙ sym count) (λ i lt. is.holds.rooms i (omega (arith, lt, count))))
+  module _ (now : PartsSeen)
+      (noted : is_access e ≡ true → Notes parts.tags now.tags (noted_as (access n (tally_at parts n).strand (word_of e) (is_store e)) (length (tally_at parts n).numbers)))
+      (same : is_access e ≡ false → now.tags ≡ parts.tags) (others : now ≡ record parts { tags = now.tags }) where
+    own_noted : is_access e ≡ true → Notes r.parts.tags now.tags (noted_as (access (core_of e) (tally_at with_own (core_of e)).strand (word_of e) (is_store e)) (length (tally_at with_own (core_of e)).numbers))
+    own_noted yes_ = subst (λ tags. Notes tags now.tags (noted_as (access (core_of e) (tally_at with_own (core_of e)).strand (word_of e) (is_store e)) (length (tally_at with_own (core_of e)).numbers))) tags_is
+        (subst (λ (p : PartsSeen). Notes parts.tags now.tags (noted_as (access (core_of e) (tally_at p (core_of e)).strand (word_of e) (is_store e)) (length (tally_at p (core_of e)).numbers))) parts_is
+        (subst (λ n. Notes parts.tags now.tags (noted_as (access n (tally_at parts n).strand (word_of e) (is_store e)) (length (tally_at parts n).numbers))) (sym own) (noted yes_)))
+
+    now_is : now ≡ record with_own { tags = now.tags }
+    now_is = others ∙ ap (λ (p : PartsSeen). record p { tags = now.tags }) parts_is
+
+    pub cache_is : now.cache ≡ cache
+    cache_is = ap (λ (p : PartsSeen). p.cache) now_is
+
+    abbrev after_ : State
+    after_ = core_after r.machine.program r.machine.state n (Some e)
+
+    -- what the fields keep
+    pub held_retired : (p : Machine) → with_memory cache.memory p ≡ made_to r.machine after_ → IsReached r.machine.config r.machine.program after_ → extents_of cache.memory ≡ r.machine.program.sizes
+        → IsHeld (record { pipeline = p; parts = now })
+    held_retired p moved reached extents =
+        let holds = queued.next.holds in
+        let count = retired_cores r.machine.program r.machine.state.now n in
+        held_moved r after_ p now (record with_own { tags = now.tags }) (ap (λ (q : PartsSeen). with_memory q.cache.memory p) now_is ∙ moved) now_is
+        (subst (λ n. Stand r.machine.config r.machine.program.sizes (core_after r.machine.program r.machine.state n (Some e)) (record with_own { tags = now.tags })) own
+        (own_stand r e own_is now.tags own_noted (λ no_. same no_ ∙ tags_is) cache (subst (λ n. CacheStands r.machine.config (core_after r.machine.program r.machine.state n (Some e)) cache) (sym own) queued.cached)))
+        (rooms_made (made_to r.machine after_) r.parts (core_of e) made_item (holds.stand.tally_count ∙ sym count) (λ i lt. holds.rooms i (omega (arith, lt, count)))) reached extents

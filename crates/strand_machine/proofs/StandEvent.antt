@@ -18,9 +18,11 @@ use Rattle.strand_rules.proofs.MarkSets.{held_grown}
 use Rattle.strand_queue.specs.declared.item.Item.{Item}
 use Rattle.strand_queue.specs.Queue.{Queue, queue}
 use Rattle.strand_tags.specs.TagsSeen.{TagsSeen}
+use Rattle.strand_cache.specs.Seen.{Seen}
 use Rattle.strand_tags.specs.Traces.{core_persists, durable_prefix}
 use Rattle.strand_tags.proofs.Longer.{prefix_kept}
 use Rattle.strand_machine.specs.Lists.{persist_number}
+use Rattle.strand_machine.specs.Cached.{CacheStands}
 use Rattle.strand_machine.specs.Changed.{tallied, with_item}
 use Rattle.strand_machine.specs.Stand.{item_of, queue_items, BuffersStand, TagsStand, Tally, TallyStands, PartsSeen, Stand, no_queue, no_tally, queue_at, buffers_at, tally_at}
 use Rattle.strand_machine.proofs.Growth.{begins, numbers_grown, number_last, strand_grown, persist_begins, barrier_begins, item_begins}
@@ -80,13 +82,13 @@ module _ (g : Settings) (s : State) (e : Event) (cs : List cores.Core) (memory :
         ]
       ]
 
-  module _ (x : Extents) (m : PartsSeen) (tags : TagsSeen) (stand : Stand g x s m) (same_cores : length cs ≡ length s.now.cores)
-      (inside : (i p : ℕ) → slice_get s.flight i ≡ Some p → p < length s.now.trace) (tags_stand : TagsStand g x then_ tags) where
+  module _ (x : Extents) (m : PartsSeen) (tags : TagsSeen) (cache : Seen) (stand : Stand g x s m) (same_cores : length cs ≡ length s.now.cores)
+      (inside : (i p : ℕ) → slice_get s.flight i ≡ Some p → p < length s.now.trace) (tags_stand : TagsStand g x then_ tags) (cache_stand : CacheStands g then_ cache) where
     buffers_kept : (n : ℕ) → n < length cs → BuffersStand g then_ n (buffers_at m n)
     buffers_kept n lt = buffers_longer g s e cs memory retired within n (buffers_at m n) (stand.buffers n (omega (arith, lt, same_cores)))
 
-    -- an event that is no item leaves the parts but for the tags
-    pub stand_other : is_item g.mode e ≡ false → Stand g x then_ (record m { tags = tags })
+    -- an event that is no item leaves the parts but for the tags and the caches
+    pub stand_other : is_item g.mode e ≡ false → Stand g x then_ (record m { tags = tags; cache = cache })
     stand_other no_ = record {
       queue_count = stand.queue_count ∙ sym same_cores;
       queues = λ n lt. stand.queues n (omega (arith, lt, same_cores)) ∙ ap (λ items. queue items g.queue) (sym (queue_longer g s e cs memory retired within n ∙ (rw no_ (append-nil _))));
@@ -96,6 +98,7 @@ module _ (g : Settings) (s : State) (e : Event) (cs : List cores.Core) (memory :
       control = stand.control ∙ ap (λ rs. record { requests = rs; limit = g.flight }) (sym (requests_longer g s e cs memory retired within inside));
       tally_count = stand.tally_count ∙ sym same_cores;
       tallies = λ n lt. tally_kept n (tally_at m n) (rw no_ refl) (stand.tallies n (omega (arith, lt, same_cores)));
+      cache = cache_stand;
     }
 
     abbrev item : Item
@@ -105,7 +108,7 @@ module _ (g : Settings) (s : State) (e : Event) (cs : List cores.Core) (memory :
     own = core_of e
 
     -- an item stands at the end of its core's queue, and is counted
-    pub stand_item : is_item g.mode e ≡ true → core_of e < length s.now.cores → Stand g x then_ (record (with_item m (core_of e) item) { tags = tags })
+    pub stand_item : is_item g.mode e ≡ true → core_of e < length s.now.cores → Stand g x then_ (record (with_item m (core_of e) item) { tags = tags; cache = cache })
     stand_item yes_ core = record {
       queue_count = length-set m.queues own _ ∙ stand.queue_count ∙ sym same_cores;
       queues = λ n lt. elim (cases_eq n own) [
@@ -129,4 +132,5 @@ module _ (g : Settings) (s : State) (e : Event) (cs : List cores.Core) (memory :
             (subst (TallyStands g then_ own) (sym (at_set m.tallies own _ no_tally (omega (arith, core, stand.tally_count)))) (tally_more (tally_at m own) yes_ (stand.tallies own core)))
         | inr ne ↦ subst (TallyStands g then_ n) (sym (at_other m.tallies own n _ no_tally ne)) (tally_kept n (tally_at m n) (rw (yes_, ne_eqb own n (λ e'. ne (sym e'))) refl) (stand.tallies n (omega (arith, lt, same_cores))))
       ];
+      cache = cache_stand;
     }

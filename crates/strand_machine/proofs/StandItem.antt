@@ -25,6 +25,7 @@ use Rattle.strand_queue.specs.Queue.{Queue, queue}
 use Rattle.strand_machine.specs.Lists.{persist_number, entries, listed, entry_of, begun}
 use Rattle.strand_machine.specs.Changed.{taken, with_dispatched}
 use Rattle.strand_machine.specs.Stand.{BuffersStand, PartsSeen, Stand, Tally, TallyStands, no_buffers, no_queue, queue_at, buffers_at, tally_at, item_of, queue_items, last_below, last_number, last_epoch}
+use Rattle.strand_machine.proofs.Caching.{cache_kept}
 use Rattle.strand_machine.proofs.Room.{numbers_rise, k_core, accepted_core, accepted_earlier, ring_by_list, begun_by_front}
 use Rattle.strand_rules.proofs.RingItem.{accepted_other, accepted_apart, below_same, one_more}
 use Rattle.strand_machine.proofs.Dispatched.{accepted_own, k_test, entries_accepted, entries_apart, entries_of_others, entries_of_item}
@@ -223,6 +224,7 @@ module _ (g : Settings) (s : State) (n k : ℕ) (first : front g s n ≡ Some k)
       control = stand.control;
       tally_count = stand.tally_count;
       tallies = λ i lt. tally_same i (tally_at m i) (stand.tallies i lt);
+      cache = cache_kept g s then_ m.cache m.cache stand.cache refl refl refl refl;
     }
 
     buffers_taken : AreParts g s → 0 < g.buffers → event_is (is_item g.mode) s.now.trace k ≡ true → k < length s.buffered → BuffersStand g then_ n (taken (buffers_at m n) (item_of g s k))

@@ -1,7 +1,7 @@
 -- The parts before the first step.
-use Rattle.std.proofs.Common.{◌≡◌, ℕ, zero, suc, List, [], length, map, replicate, refl, sym, ap, subst, ◌∙◌}
+use Rattle.std.proofs.Common.{◌≡◌, ℕ, zero, suc, ◌<◌, List, [], length, map, replicate, refl, sym, ap, subst, ◌∙◌, arith}
 use Rattle.std.specs.Prelude.{drop, slice_index, slice_index_or}
-use Rattle.std.proofs.lemmas.List.{length-replicate, get_or-replicate}
+use Rattle.std.proofs.lemmas.List.{length-map, length-replicate, get_or-replicate}
 use Rattle.strand_exec.specs.Core as cores
 use Rattle.strand_exec.specs.Core.{Extents}
 use Rattle.strand_exec.specs.Memory.{Memory}
@@ -9,7 +9,9 @@ use Rattle.strand_inputs.specs.Settings.{Settings}
 use Rattle.strand_image.specs.Parts.{Parts}
 use Rattle.strand_exec.specs.Core.{fresh}
 use Rattle.strand_rules.specs.Cycle.{gone, start_at}
-use Rattle.strand_rules.specs.Machine.{Machine, machine_at}
+use Rattle.strand_rules.specs.Machine.{Machine, machine_at, program_of, start_of}
+use Rattle.strand_cache.specs.Seen.{CachesStand}
+use Rattle.strand_machine.proofs.Caching.{cache_start}
 use Rattle.strand_machine.proofs.Held.{Stands, HasRooms}
 use Rattle.strand_inputs.specs.declared.mode.Mode.{Mode}
 use Rattle.strand_inputs.specs.declared.mode.Mode.TheVariants.{Strict, Epoch, Strand}
@@ -41,8 +43,8 @@ next_none Strand n = refl
 
 -- they stand for the state before the first step
 pub stand_start : (g : Settings) (x : Extents) (cs : List cores.Core) (memory : Memory) (room : ℕ) (tags : TagsSeen) → tags.extents ≡ x → tags.strands ≡ replicate (length cs) 0 → tags.made ≡ replicate (length cs) 0 → StandFor tags []
-    → Stand g x (start_at cs memory) (start_parts g (length cs) room tags)
-stand_start g x cs memory room tags extents strands made stand =
+    → CachesStand (start_parts g (length cs) memory room tags).cache [] → Stand g x (start_at cs memory) (start_parts g (length cs) memory room tags)
+stand_start g x cs memory room tags extents strands made stand cached =
     let s = start_at cs memory in
     record {
       queue_count = length-replicate (length cs) (queue [] g.queue);
@@ -66,17 +68,24 @@ stand_start g x cs memory room tags extents strands made stand =
       control = refl;
       tally_count = length-replicate (length cs) (empty_tally room);
       tallies = λ n lt. subst (TallyStands g s n) (sym (get_or-replicate (length cs) n (empty_tally room) no_tally lt)) (record { numbers = refl; first = refl; strand = sym (next_none g.mode n) });
+      cache = cache_start g cs memory cached;
     }
 
 -- the same of a machine that was just made
-pub stand_new : (g : Settings) (image : Parts) (steps : ℕ) (m : Machine) (parts : PartsSeen) → m ≡ machine_at g image steps → parts ≡ start_parts g (length m.state.now.cores) steps parts.tags → parts.tags.extents ≡ m.program.sizes
-    → parts.tags.strands ≡ replicate (length m.state.now.cores) 0 → parts.tags.made ≡ replicate (length m.state.now.cores) 0 → StandFor parts.tags [] → Stands m parts
-stand_new g image steps m parts e =
-    subst (λ (m : Machine). parts ≡ start_parts g (length m.state.now.cores) steps parts.tags → parts.tags.extents ≡ m.program.sizes
-    → parts.tags.strands ≡ replicate (length m.state.now.cores) 0 → parts.tags.made ≡ replicate (length m.state.now.cores) 0 → StandFor parts.tags [] → Stands m parts) (sym e)
-    (λ now extents strands made stand. subst (Stands (machine_at g image steps)) (sym now)
-    (stand_start g (machine_at g image steps).program.sizes (map fresh image.entries) (machine_at g image steps).state.now.memory steps parts.tags extents strands made stand))
+module _ (g : Settings) (image : Parts) (steps : ℕ) (m : Machine) (parts : PartsSeen) (is : m ≡ machine_at g image steps) (now : parts ≡ start_parts g (length image.entries) (start_of image).now.memory steps parts.tags) where
+  cores_are : length (map fresh image.entries) ≡ length image.entries
+  cores_are = length-map image.entries fresh
 
-pub rooms_new : (g : Settings) (image : Parts) (steps : ℕ) (m : Machine) (parts : PartsSeen) → m ≡ machine_at g image steps → parts ≡ start_parts g (length m.state.now.cores) steps parts.tags → HasRooms m parts
-rooms_new g image steps m parts e now n lt =
-    ap (λ (p : PartsSeen). (tally_at p n).room) now ∙ ap (λ (t : Tally). t.room) (get_or-replicate (length m.state.now.cores) n (empty_tally steps) no_tally lt) ∙ sym (ap (λ (m : Machine). m.steps) e)
+  now_is : parts ≡ start_parts g (length (map fresh image.entries)) (start_of image).now.memory steps parts.tags
+  now_is = now ∙ ap (λ n. start_parts g n (start_of image).now.memory steps parts.tags) (sym cores_are)
+
+  pub stand_new : parts.tags.extents ≡ (program_of image).sizes → parts.tags.strands ≡ replicate (length image.entries) 0 → parts.tags.made ≡ replicate (length image.entries) 0 → StandFor parts.tags [] → CachesStand parts.cache [] → Stands m parts
+  stand_new extents strands made noted cached =
+      subst (λ m. Stands m parts) (sym is) (subst (Stands (machine_at g image steps)) (sym now_is)
+      (stand_start g (program_of image).sizes (map fresh image.entries) (start_of image).now.memory steps parts.tags extents
+      (strands ∙ ap (λ n. replicate n 0) (sym cores_are)) (made ∙ ap (λ n. replicate n 0) (sym cores_are)) noted (subst (λ (p : PartsSeen). CachesStand p.cache []) now_is cached)))
+
+  pub rooms_new : HasRooms m parts
+  rooms_new n lt =
+      let there : n < length image.entries = omega (arith, subst (λ (m : Machine). n < length m.state.now.cores) is lt, cores_are) in
+      ap (λ (p : PartsSeen). (tally_at p n).room) now ∙ ap (λ (t : Tally). t.room) (get_or-replicate (length image.entries) n (empty_tally steps) no_tally there) ∙ sym (ap (λ (m : Machine). m.steps) is)

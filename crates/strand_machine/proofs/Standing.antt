@@ -1,5 +1,5 @@
 -- The parts stand for the state after a send and after a write.
-use Rattle.std.proofs.Common.{◌≡◌, ℕ, ◌<◌, Bool, true, false, inl, inr, List, [], ◌∷◌, ◌++◌, length, map, sym, ap, subst, ◌∙◌, arith}
+use Rattle.std.proofs.Common.{◌≡◌, ℕ, ◌<◌, Bool, true, false, inl, inr, List, [], ◌∷◌, ◌++◌, length, map, refl, sym, ap, subst, ◌∙◌, arith}
 use Rattle.std.specs.Prelude.{◌==◌, remove, slice_set, slice_index_or, Some, if◌then◌else◌}
 use Rattle.std.proofs.lemmas.Bool.{cases_eq, and_parts, eqb-true}
 use Rattle.std.proofs.lemmas.List.{length-set, get_or-set_same, get_or-set_other}
@@ -21,6 +21,7 @@ use Rattle.strand_tags.specs.Traces.{leading}
 use Rattle.strand_machine.specs.Lists.{persist_number, is_of_buffer, listed, entry_of, entries}
 use Rattle.strand_machine.specs.Changed.{advanced, with_sent, with_written}
 use Rattle.strand_machine.specs.Stand.{request_at, Tally, BuffersStand, TallyStands, PartsSeen, Stand, no_buffers, no_tally, buffers_at, tally_at}
+use Rattle.strand_machine.proofs.Caching.{cache_kept}
 use Rattle.strand_machine.proofs.Growth.{first_apart, first_by_marks}
 use Rattle.strand_machine.proofs.Stages.{map_on, open_on, listed_member, entries_sent, entries_written}
 use Rattle.strand_machine.proofs.Flights.{requests_sent, requests_written}
@@ -141,6 +142,7 @@ module _ (g : Settings) (s : State) (p : ℕ) where
         control = ap (λ (f : Flight). record f { requests = f.requests ++ request_at g s p ∷ [] }) stand.control ∙ ap (λ rs. record { requests = rs; limit = g.flight }) (sym (requests_sent g s p));
         tally_count = stand.tally_count;
         tallies = λ n lt. (let own_ = stand.tallies n lt in record { numbers = own_.numbers; first = own_.first; strand = own_.strand });
+        cache = cache_kept g s (send_after s (Some p)) m.cache m.cache stand.cache refl refl refl refl;
       }
 
       -- the parts after a write: the controller drops it, the buffers release it, and it is counted
@@ -165,4 +167,5 @@ module _ (g : Settings) (s : State) (p : ℕ) where
                   (subst (TallyStands g (write_after s j (Some p)) c) (sym (at_set m.tallies c (advanced (tally_at m c) after_) no_tally (omega (arith, core, stand.tally_count)))) (tally_written j (tally_at m c) (stand.tallies c core)))
               | inr ne ↦ subst (TallyStands g (write_after s j (Some p)) n) (sym (at_other m.tallies c n (advanced (tally_at m c) after_) no_tally ne)) (tally_unwritten j n (tally_at m n) ne (stand.tallies n lt))
             ];
+            cache = cache_kept g s (write_after s j (Some p)) m.cache m.cache stand.cache refl refl refl refl;
           }

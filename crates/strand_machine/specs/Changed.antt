@@ -2,6 +2,9 @@
 use Rattle.std.specs.Prelude.{◌≡◌, ℕ, ◌+◌, ◌-◌, ◌^◌, ◌<◌, ◌≤◌, Bool, true, false, List, [], ◌∷◌, ◌++◌, drop, length, map, replicate, slice_set, Some, None, MatchOption}
 use Rattle.std.specs.declared.option.Option.{Option}
 use Rattle.strand_inputs.specs.Settings.{Settings}
+use Rattle.strand_exec.specs.Memory.{Memory}
+use Rattle.strand_exec.specs.declared.planned.Plan.{Plan}
+use Rattle.strand_exec.specs.declared.planned.Plan.TheVariants.{Load, Store}
 use Rattle.strand_events.specs.Order.{held}
 use Rattle.strand_queue.specs.declared.item.Item.{Item}
 use Rattle.strand_queue.specs.declared.item.Item.TheVariants.{Persist, Barrier, NewStrand}
@@ -11,20 +14,25 @@ use Rattle.strand_control.specs.declared.request.Request.{Request}
 use Rattle.strand_tags.specs.Access.{Noted}
 use Rattle.strand_tags.specs.TagsSeen.{TagsSeen, StandFor}
 use Rattle.strand_tags.specs.Traces.{leading}
+use Rattle.strand_cache.specs.declared.change.Change.{Change}
+use Rattle.strand_cache.specs.declared.change.Change.TheVariants.{Read, Merge}
+use Rattle.strand_cache.specs.Changes.{memory_after}
+use Rattle.strand_cache.specs.Seen.{Seen, IsAccess, counted, counts_seen, empty_caches, shape_seen}
 use Rattle.strand_machine.specs.Stand.{PartsSeen, Tally, queue_at, buffers_at, tally_at}
 
 -- nothing is counted yet, with room for so many persists
 abbrev pub empty_tally : ℕ → Tally
 empty_tally room = record { numbers = []; first = 0; strand = 0; room = room }
 
--- the parts that were just made, of so many cores, with room for so many persists a core
-abbrev pub start_parts : Settings → ℕ → ℕ → TagsSeen → PartsSeen
-start_parts g count room tags = record {
+-- the parts that were just made, of so many cores over a memory, with room for so many persists a core
+abbrev pub start_parts : Settings → ℕ → Memory → ℕ → TagsSeen → PartsSeen
+start_parts g count memory room tags = record {
   queues = replicate count (queue [] g.queue);
   buffers = replicate count (empty_buffers g.buffers g.ring);
   tags = tags;
   control = record { requests = []; limit = g.flight };
   tallies = replicate count (empty_tally room);
+  cache = empty_caches count g.sets g.ways memory.volatile memory.persistent;
 }
 
 -- how many of the persists with these numbers are durable before the first that isn't
@@ -70,6 +78,21 @@ pub record Notes (old new : TagsSeen) (n : Noted) : Type 0 where
   pub made : new.made ≡ slice_set old.made n.access.core n.made
   pub cores : length new.made ≡ length new.strands
   pub stands : (ns : List Noted) → StandFor old ns → StandFor new (ns ++ n ∷ [])
+
+-- what an access of core n to a word makes of the caches
+pub record IsCached (old new : Seen) (n word : ℕ) (change : Change) : Type 0 where
+  pub hits : Bool
+  pub cores : new.cores ≡ old.cores
+  pub shape : shape_seen new ≡ shape_seen old
+  pub memory : new.memory ≡ memory_after change word old.memory
+  pub counts : new.counts ≡ slice_set old.counts n (counted hits (counts_seen old n))
+  pub access : IsAccess old new n word change hits
+
+-- what an instruction of core n with this plan makes of the caches
+abbrev pub GoesThrough : Seen → Seen → ℕ → Plan → Type 0
+GoesThrough old new n (Load word) = IsCached old new n word Read
+GoesThrough old new n (Store word mask bits) = IsCached old new n word (Merge mask bits)
+GoesThrough old new n _ = new ≡ old
 
 -- the buffers can take a dispatched item
 abbrev pub CanTake : Buffers → Item → Type 0

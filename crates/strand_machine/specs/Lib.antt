@@ -1,4 +1,5 @@
 pub mod Lists
+pub mod Cached
 pub mod Stand
 pub mod Changed
 pub mod Machine

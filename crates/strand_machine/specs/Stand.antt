@@ -18,7 +18,9 @@ use Rattle.strand_control.specs.declared.request.Request.{Request}
 use Rattle.strand_control.specs.Flight.{Flight}
 use Rattle.strand_tags.specs.TagsSeen.{TagsSeen, StandFor}
 use Rattle.strand_tags.specs.Traces.{core_persists, durable_prefix, made_below, noted_accesses}
+use Rattle.strand_cache.specs.Seen.{Seen}
 use Rattle.strand_machine.specs.Lists.{persist_number, entries, begun}
+use Rattle.strand_machine.specs.Cached.{CacheStands}
 
 -- event k, which is an item, as a queue holds it
 abbrev pub item_at : Mode → List Event → ℕ → Item
@@ -102,6 +104,7 @@ pub record PartsSeen : Type 0 where
   pub tags : TagsSeen
   pub control : Flight
   pub tallies : List Tally
+  pub cache : Seen
 
 abbrev pub no_queue : Queue
 no_queue = queue [] 0
@@ -132,3 +135,4 @@ pub record Stand (g : Settings) (sizes : Extents) (s : State) (m : PartsSeen) : 
   pub control : m.control ≡ record { requests = requests g s; limit = g.flight }
   pub tally_count : length m.tallies ≡ length s.now.cores
   pub tallies : (n : ℕ) → n < length s.now.cores → TallyStands g s n (tally_at m n)
+  pub cache : CacheStands g s m.cache

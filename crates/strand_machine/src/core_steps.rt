@@ -15,7 +15,7 @@ use strand_events::{Event, Trace};
 use strand_exec::{Effect, Plan, asked};
 use strand_inputs::Mode;
 use strand_queue::Item;
-use strand_rules::{Cause, Turn, is_item};
+use strand_rules::{Cause, Turn, is_item, made_event};
 
 impl Machine {
     // The event that core n's instruction makes.
@@ -26,7 +26,8 @@ impl Machine {
         ensures fits { IfSome result EventFits }
         ensures core { IfSome result (FitsCore self.now.machine.program.sizes n) }
     {
-        self.plain.next_event(n, plan)
+        self.pipeline.keeps();
+        made_event(n, plan, self.parts.overwritten(plan))
     }
 
     // Core n, which runs, retires its instruction.
@@ -44,15 +45,16 @@ impl Machine {
             (core_after self.old.machine.program self.old.machine.state n event) }
         ensures parts { PartsStand self.new }
     {
-        self.plain.keeps();
+        self.pipeline.keeps();
         // It tells that no more items wait than the depth lets.
         let _full = self.parts.queue(n).is_full();
-        self.plain.retire(n, effect, plan, event);
+        let loaded = self.parts.access(n, plan);
+        self.pipeline.retire(n, effect, event, loaded);
         let Some(event) = event else {
             return;
         };
-        let config = self.plain.config();
-        let item = newest_item(self.plain.trace(), config.mode, event);
+        let config = self.pipeline.config();
+        let item = newest_item(self.pipeline.trace(), config.mode, event);
         self.parts.enqueue(n, item);
         self.parts.note_access(n, event);
     }
@@ -66,10 +68,10 @@ impl Machine {
         ensures machine { self.new.machine ≡ stepped self.old.machine (Core n) }
         ensures parts { PartsStand self.new }
     {
-        let Some(effect) = self.plain.next_effect(n) else {
+        let Some(effect) = self.pipeline.next_effect(n) else {
             return self.bubble(Cause::Ended);
         };
-        let plan = asked(effect, self.plain.sizes());
+        let plan = asked(effect, self.pipeline.sizes());
         let event = self.next_event(n, plan);
         let turn = self.made_turn(n, event);
         match turn {

@@ -33,7 +33,7 @@ impl Machine {
             (self.now.machine.state.now.trace ++ event ∷ []) (held self.now.machine.state.durable)
             (length self.now.machine.state.now.trace) }
     {
-        self.plain.keeps();
+        self.pipeline.keeps();
         let strand = self.parts.tally(n).strand();
         let covered = self
             .parts
@@ -67,7 +67,7 @@ impl Machine {
         if event.is_access() && self.must_wait(n, event) {
             return Turn::Bubble(Cause::Conflict);
         }
-        let config = self.plain.config();
+        let config = self.pipeline.config();
         if is_item(config.mode, event) && self.queue_full(n) {
             return Turn::Bubble(Cause::Queue);
         }

@@ -19,7 +19,7 @@ impl Machine {
         ensures { result ≡ turn self.now.machine.config self.now.machine.program
             self.now.machine.state (Dispatch n) }
     {
-        self.plain.keeps();
+        self.pipeline.keeps();
         let buffers = self.parts.buffers(n);
         match item {
             Item::Persist { .. } => done_or(buffers.room(), Cause::NoRoom),
@@ -34,9 +34,9 @@ impl Machine {
         requires front { slice_get (queue_at self.now.parts n).items 0 ≡ Some item }
         ensures { FrontIs self.now.machine.config self.now.machine.state n result }
     {
-        self.plain.keeps();
+        self.pipeline.keeps();
         match item {
-            Item::Persist { number, .. } => Some(self.plain.trace().persist_at(number)),
+            Item::Persist { number, .. } => Some(self.pipeline.trace().persist_at(number)),
             Item::Barrier | Item::NewStrand => None,
         }
     }
@@ -53,9 +53,9 @@ impl Machine {
             (front self.old.machine.config self.old.machine.state n)) }
         ensures parts { PartsStand self.new }
     {
-        self.plain.keeps();
+        self.pipeline.keeps();
         let persist = self.persist_of(n, item);
-        self.plain.dispatch(n, persist);
+        self.pipeline.dispatch(n, persist);
         self.parts.dispatch(n, item);
     }
 

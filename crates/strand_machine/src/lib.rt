@@ -1,4 +1,4 @@
-//! The ring machine: the plain machine's states, by bounded queues, strand buffers, tags and a
+//! The ring machine: the plain machine's states, by bounded queues, strand buffers, tags, caches and a
 //! controller, so that no step looks back over the trace (docs/rings.md).
 #![tactic(auto)]
 
@@ -8,6 +8,8 @@ mod dispatch_steps;
 mod machine;
 mod making;
 mod parts;
+#[cfg(test)]
+mod plain_counts;
 mod send_steps;
 mod tally;
 #[cfg(test)]

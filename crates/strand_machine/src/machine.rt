@@ -5,6 +5,7 @@ ghost use Rattle.strand_inputs.specs.Schedule.{IsBelow};
 ghost use Rattle.strand_queue.specs.Queue.{queue};
 ghost use Rattle.strand_rules.specs.Cycle.{durable_set};
 ghost use Rattle.strand_rules.specs.Machine.{machine_at, made_to, durable_persists, SameSetup, StandsOn, Steps};
+ghost use Rattle.strand_machine.specs.Cached.{CacheStands, cache_counts, core_counts};
 ghost use Rattle.strand_machine.specs.Machine.{PartsStand};
 ghost use Rattle.strand_machine.specs.Stand.{BuffersStand, TagsStand, buffers_at, queue_at, queue_items, requests};
 ghost use Rattle.strand_modules.specs.Seen.{bank_seen};
@@ -15,6 +16,7 @@ use std::alloc::Global;
 use std::marker::Model;
 use strand_base::OutOfMemory;
 use strand_buffer::StrandBuffers;
+use strand_cache::{Counts, Hierarchy};
 use strand_control::Controller;
 use strand_events::Trace;
 use strand_exec::{CoreState, FlatMemory, Sizes};
@@ -22,17 +24,18 @@ use strand_image::Image;
 use strand_inputs::{Config, Step};
 use strand_modules::ModuleBank;
 use strand_queue::PersistQueue;
-use strand_rules::{Cause, PlainMachine, Turn};
+use strand_rules::{Cause, Pipeline, Turn};
 use strand_tags::Tags;
 
 /// The machine that runs an image under a schedule, one step at a time, by the cycle rules
 /// (docs/cycle.md), and decides each step by its parts: the queues and the strand buffers of the cores,
-/// the conflict tags, the requests in flight, and what is counted of each core (docs/rings.md). It takes
-/// no memory after it is made, and no step looks back over the trace. Contracts see the machine of the
-/// rules, and the parts beside it, which stand for its state.
+/// the conflict tags, the requests in flight, and what is counted of each core (docs/rings.md). The cores
+/// read and write their memory through the caches (docs/cache.md), and it stands nowhere else. The
+/// machine takes no memory after it is made, and no step looks back over the trace. Contracts see the
+/// machine of the rules, and the parts beside it, which stand for its state.
 #[derive(Drop)]
 pub struct Machine {
-    pub(crate) plain: PlainMachine,
+    pub(crate) pipeline: Pipeline,
     pub(crate) parts: Parts,
 }
 
@@ -61,31 +64,30 @@ impl Machine {
         ensures machine { IfOk result (λ m. m.machine ≡ machine_at config.now image.now steps) }
         ensures parts { IfOk result PartsStand }
     {
-        let plain = PlainMachine::new(alloc, config, image, steps)?;
-        let cores = plain.cores().len() as u32;
-        let parts = fresh_parts(alloc, *config, cores, plain.sizes(), steps as u32)?;
-        Ok(Machine { plain, parts })
+        let pipeline = Pipeline::new(alloc, config, image, steps)?;
+        let parts = fresh_parts(alloc, *config, image, pipeline.sizes(), steps as u32)?;
+        Ok(Machine { pipeline, parts })
     }
 
     /// How many steps were made: a step that is done or a bubble is one, a fault is none.
     pub fn made(&self) -> u64
         ensures { result ≡ self.now.machine.made }
     {
-        self.plain.made()
+        self.pipeline.made()
     }
 
     /// The settings.
     pub fn config(&self) -> Config
         ensures { result ≡ self.now.machine.config }
     {
-        self.plain.config()
+        self.pipeline.config()
     }
 
     /// How many words the two data regions have.
     pub fn sizes(&self) -> Sizes
         ensures { result ≡ self.now.machine.program.sizes }
     {
-        self.plain.sizes()
+        self.pipeline.sizes()
     }
 
     /// What the cores did so far, with room for all steps. Its persists are to the persistent words of the
@@ -95,14 +97,14 @@ impl Machine {
         ensures room { result.now.room ≡ self.now.machine.steps }
         ensures placed { LieIn result.now.events self.now.machine.program.sizes.persistent }
     {
-        self.plain.trace()
+        self.pipeline.trace()
     }
 
     /// The cores that retired an instruction, in turn.
     pub fn retired(&self) -> &[u32]
         ensures { result.now ≡ self.now.machine.state.retired }
     {
-        self.plain.retired()
+        self.pipeline.retired()
     }
 
     /// Whether each persist is durable, by the numbers of the persists. The durable ones are
@@ -114,7 +116,7 @@ impl Machine {
         ensures joined { HoldsJoined self.now.machine.state.now.trace
             (durable_set self.now.machine.state) }
     {
-        self.plain.durable()
+        self.pipeline.durable()
     }
 
     /// The cores.
@@ -122,7 +124,7 @@ impl Machine {
         ensures cores { result.now ≡ self.now.machine.state.now.cores }
         ensures few { length result.now ≤ 4 }
     {
-        self.plain.cores()
+        self.pipeline.cores()
     }
 
     /// Core n.
@@ -130,14 +132,14 @@ impl Machine {
         requires { n < length self.now.machine.state.now.cores }
         ensures { slice_get self.now.machine.state.now.cores n ≡ Some result.now }
     {
-        self.plain.core(n)
+        self.pipeline.core(n)
     }
 
     /// A copy of the memory that the cores see.
     pub fn flatten(&self) -> Result<FlatMemory, OutOfMemory>
         ensures { IfOk result (λ memory. memory ≡ self.now.machine.state.now.memory) }
     {
-        self.plain.flatten()
+        self.parts.cache().flatten()
     }
 
     /// The queue of core n: its items that it hasn't dispatched, in trace order.
@@ -180,6 +182,31 @@ impl Machine {
         self.parts.control()
     }
 
+    /// The caches: their flat memory is the cores' memory, and they stand for the accesses of the trace.
+    pub fn cache(&self) -> &Hierarchy
+        ensures part { result.now ≡ self.now.parts.cache }
+        ensures stands { CacheStands self.now.machine.config self.now.machine.state result.now }
+    {
+        self.parts.cache()
+    }
+
+    /// How many of core n's accesses hit and missed, by the cache rule.
+    pub fn counts(&self, n: u32) -> Counts
+        requires { n < length self.now.machine.state.now.cores }
+        ensures { result
+            ≡ core_counts self.now.machine.config self.now.machine.state.now.trace n }
+    {
+        self.parts.cache().counts(n)
+    }
+
+    /// The same of each core.
+    pub fn all_counts(&self) -> &[Counts]
+        ensures { result.now ≡ cache_counts self.now.machine.config
+            (length self.now.machine.state.now.cores) self.now.machine.state.now.trace }
+    {
+        self.parts.cache().all_counts()
+    }
+
     // A step that changes nothing but the count of steps.
     pub(crate) fn bubble(&mut self, cause: Cause) -> Turn
         requires { self.old.machine.made < self.old.machine.steps }
@@ -187,7 +214,7 @@ impl Machine {
         ensures machine { self.new.machine ≡ made_to self.old.machine self.old.machine.state }
         ensures parts { PartsStand self.new }
     {
-        self.plain.bubble(cause)
+        self.pipeline.bubble(cause)
     }
 
     /// Makes a step, for a core and a buffer of the machine. It takes no memory. A fault comes only where
@@ -204,7 +231,7 @@ impl Machine {
             self.old.machine.state self.new.machine.state (bank_seen holds bank.old) (bank_seen holds bank.new) }
         ensures parts { PartsStand self.new }
     {
-        self.plain.keeps();
+        self.pipeline.keeps();
         match step {
             Step::Core(n) => self.step_core(n),
             Step::Dispatch(n) => self.step_dispatch(n),

@@ -1,7 +1,9 @@
 // The parts before the first step.
-ghost use Rattle.std.specs.Prelude.{◌≡◌, ◌≤◌, [], IfOk, replicate};
+ghost use Rattle.std.specs.Prelude.{◌≡◌, ◌≤◌, [], IfOk, length, replicate};
 ghost use Rattle.strand_buffer.specs.Buffers.{empty_buffers};
+ghost use Rattle.strand_cache.specs.Seen.{CachesStand, empty_caches};
 ghost use Rattle.strand_queue.specs.Queue.{queue};
+ghost use Rattle.strand_rules.specs.Machine.{start_of};
 ghost use Rattle.strand_tags.specs.TagsSeen.{StandFor};
 ghost use Rattle.strand_machine.specs.Changed.{empty_tally, start_parts};
 
@@ -10,35 +12,60 @@ use crate::tally::CoreTally;
 use std::alloc::Global;
 use strand_base::OutOfMemory;
 use strand_buffer::StrandBuffers;
+use strand_cache::Hierarchy;
 use strand_control::Controller;
 use strand_exec::Sizes;
+use strand_image::Image;
 use strand_inputs::Config;
 use strand_queue::PersistQueue;
 use strand_tags::Tags;
 
-// The parts of so many cores over the words of the regions, with room for so many persists a core.
+// The parts of a machine of this image, whose regions have these sizes, with room for so many persists a
+// core.
 pub(crate) fn fresh_parts(
     alloc: Global,
     config: Config,
-    cores: u32,
+    image: &Image,
     sizes: Sizes,
     room: u32,
 ) -> Result<Parts, OutOfMemory>
-    requires { cores ≤ 8 }
-    ensures parts { IfOk result (λ m. m ≡ start_parts config cores room m.tags) }
+    ensures parts { IfOk result (λ m. m ≡ start_parts config (length image.now.entries)
+        (start_of image.now).now.memory room m.tags) }
     ensures extents { IfOk result (λ m. m.tags.extents ≡ sizes) }
-    ensures strands { IfOk result (λ m. m.tags.strands ≡ replicate cores 0) }
-    ensures made { IfOk result (λ m. m.tags.made ≡ replicate cores 0) }
-    ensures stands { IfOk result (λ m. StandFor m.tags []) }
+    ensures strands { IfOk result (λ m. m.tags.strands ≡ replicate (length image.now.entries) 0) }
+    ensures made { IfOk result (λ m. m.tags.made ≡ replicate (length image.now.entries) 0) }
+    ensures noted { IfOk result (λ m. StandFor m.tags []) }
+    ensures accesses { IfOk result (λ m. CachesStand m.cache []) }
 {
+    let cores = image.entries().len() as u32;
     let tags = Tags::new(alloc, cores, sizes)?;
+    let cache = fresh_cache(alloc, config, image)?;
     Ok(Parts {
         queues: fresh_queues(alloc, cores, config.queue)?,
         buffers: fresh_buffers(alloc, cores, config.buffers, config.ring)?,
         tags,
         control: Controller::new(alloc, config.flight)?,
         tallies: fresh_tallies(alloc, cores, room)?,
+        cache,
     })
+}
+
+// The empty caches of a machine of this image.
+fn fresh_cache(alloc: Global, config: Config, image: &Image) -> Result<Hierarchy, OutOfMemory>
+    ensures empty { IfOk result (λ h. h ≡ empty_caches (length image.now.entries) config.sets
+        config.ways image.now.volatile image.now.persistent) }
+    ensures stands { IfOk result (λ h. CachesStand h []) }
+{
+    let cores = image.entries().len() as u32;
+    let (sets, ways) = (config.sets, config.ways);
+    Hierarchy::new(
+        alloc,
+        cores,
+        sets,
+        ways,
+        image.volatile(),
+        image.persistent(),
+    )
 }
 
 // So many empty queues of a depth.

@@ -2,22 +2,29 @@ ghost use Rattle.std.specs.Prelude.{◌≡◌, ◌<◌, ◌≤◌, ◌^◌, ◌-
 ghost use Rattle.strand_buffer.specs.Buffers.{IsEligible, IsSent};
 ghost use Rattle.strand_control.specs.Flight.{LieInBank, Writes};
 ghost use Rattle.strand_events.specs.Trace.{is_access, is_store, word_of};
+ghost use Rattle.strand_exec.specs.Memory.{extents_of};
+ghost use Rattle.strand_exec.specs.Plan.{IsPlaced};
+ghost use Rattle.strand_rules.specs.Pipeline.{overwritten};
+ghost use Rattle.strand_rules.specs.Visible.{loaded};
 ghost use Rattle.strand_tags.specs.Access.{access, noted_as};
 ghost use Rattle.strand_tags.specs.TagsSeen.{CanAsk};
-ghost use Rattle.strand_machine.specs.Changed.{CanQueue, CanTake, Notes, durable_first, taken, with_dispatched, with_made, with_sent, with_written};
+ghost use Rattle.strand_machine.specs.Changed.{CanQueue, CanTake, GoesThrough, Notes, durable_first, taken, with_dispatched, with_made, with_sent, with_written};
 ghost use Rattle.strand_machine.specs.Stand.{buffers_at, queue_at, tally_at};
 ghost use Rattle.strand_modules.specs.Seen.{bank_seen};
 
 use crate::tally::CoreTally;
 use std::marker::Model;
 use strand_buffer::StrandBuffers;
+use strand_cache::{Change, Hierarchy};
 use strand_control::{Controller, Request, WriteTurn};
 use strand_events::Event;
+use strand_exec::Plan;
 use strand_modules::ModuleBank;
 use strand_queue::{Item, PersistQueue};
 use strand_tags::Tags;
 
-// The queue and the buffers of each core, the tags, the controller, and what is counted of each core.
+// The queue and the buffers of each core, the tags, the controller, what is counted of each core, and
+// the caches.
 #[derive(Drop)]
 pub(crate) struct Parts {
     pub(crate) queues: Vec<PersistQueue>,
@@ -25,6 +32,7 @@ pub(crate) struct Parts {
     pub(crate) tags: Tags,
     pub(crate) control: Controller,
     pub(crate) tallies: Vec<CoreTally>,
+    pub(crate) cache: Hierarchy,
 }
 
 impl Model for Parts {
@@ -74,6 +82,43 @@ impl Parts {
         ensures { result.now ≡ self.now.control }
     {
         &self.control
+    }
+
+    // The caches.
+    pub fn cache(&self) -> &Hierarchy
+        ensures { result.now ≡ self.now.cache }
+    {
+        &self.cache
+    }
+
+    // The word that an instruction with this plan overwrites, where it stores.
+    pub fn overwritten(&self, plan: Plan) -> u64
+        requires { IsPlaced (extents_of self.now.cache.memory) plan }
+        ensures { result ≡ overwritten self.now.cache.memory plan }
+    {
+        match plan {
+            Plan::Store { word, .. } => self.cache.word(word),
+            _ => 0,
+        }
+    }
+
+    // Core n's instruction goes through the caches where it reads or writes a word; the word that it loads.
+    pub fn access(&mut self, n: u32, plan: Plan) -> u64
+        requires core { n < self.old.cache.cores }
+        requires placed { IsPlaced (extents_of self.old.cache.memory) plan }
+        ensures loaded { result ≡ loaded self.old.cache.memory plan }
+        ensures cache { GoesThrough self.old.cache self.new.cache n plan }
+        ensures extents { extents_of self.new.cache.memory ≡ extents_of self.old.cache.memory }
+        ensures others { self.new ≡ record self.old { cache = self.new.cache } }
+    {
+        match plan {
+            Plan::Load { word } => self.cache.access(n, word, Change::Read).value,
+            Plan::Store { word, mask, bits } => {
+                self.cache.access(n, word, Change::Merge { mask, bits });
+                0
+            }
+            _ => 0,
+        }
     }
 
     // Core n made an event, which this item stands for if any does.

@@ -20,8 +20,8 @@ impl Machine {
         requires slot { eligible_slot (buffers_at self.now.parts n) b j ≡ Some slot }
         ensures { SlotIs self.now n b j slot result }
     {
-        self.plain.keeps();
-        self.plain.trace().persist_at(slot.number)
+        self.pipeline.keeps();
+        self.pipeline.trace().persist_at(slot.number)
     }
 
     // Buffer b of core n sends persist p, which its buffers hand out as this slot.
@@ -33,8 +33,8 @@ impl Machine {
             (send_after self.old.machine.state (Some p)) }
         ensures parts { PartsStand self.new }
     {
-        self.plain.keeps();
-        self.plain.send(p);
+        self.pipeline.keeps();
+        self.pipeline.send(p);
         self.parts.send(Request {
             core: n,
             buffer: b,
@@ -54,7 +54,7 @@ impl Machine {
         ensures machine { self.new.machine ≡ stepped self.old.machine (Send n b j) }
         ensures parts { PartsStand self.new }
     {
-        self.plain.keeps();
+        self.pipeline.keeps();
         let Some(slot) = self.parts.buffers(n).eligible(b, j) else {
             return self.bubble(Cause::NoEntry);
         };

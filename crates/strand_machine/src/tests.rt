@@ -2,6 +2,7 @@ ghost use Rattle.std.specs.Prelude.{◌≡◌, true};
 ghost use Rattle.strand_inputs.specs.Schedule.{IsBelow};
 
 use super::*;
+use crate::plain_counts::plain_counts;
 use std::alloc::Global;
 use std::process::Abort;
 use std::test::*;
@@ -78,6 +79,22 @@ fn image_of(alloc: Global) -> Result<Image, Fail> {
     Ok(image.ok().ok_or("an image")?)
 }
 
+// Compares the hits and misses of both cores with those of the plain rule.
+fn compare_counts(rt: &impl Abort, ring: &Machine) -> Result<(), Fail> {
+    let events = ring.trace().events();
+    let wanted = [
+        plain_counts(events, ring.config(), 0),
+        plain_counts(events, ring.config(), 1),
+    ];
+    assert_eq!(rt; ring.all_counts(), wanted.as_slice());
+    if ring.cores().len() < 2 {
+        return Err("one core".into());
+    }
+    assert_eq!(rt; ring.counts(1), wanted[1]);
+    assert_eq!(rt; ring.cache().all_counts(), ring.all_counts());
+    Ok(())
+}
+
 // Compares what the machines tell, and asks core 0's parts whether they have room.
 fn compare_told(rt: &impl Abort, plain: &PlainMachine, ring: &Machine) -> Result<(), Fail> {
     assert_eq!(rt; ring.made(), plain.made());
@@ -118,6 +135,7 @@ fn compare(
         step_both(rt, &mut plain, &mut ring, *step, plain_bank, ring_bank)?;
     }
     compare_told(rt, &plain, &ring)?;
+    compare_counts(rt, &ring)?;
     Ok(ring.durable().iter().filter(|durable| **durable).count())
 }
 
@@ -129,8 +147,13 @@ fn compare_modes(
     steps: &[Step],
     durable: usize,
 ) -> Result<(), Fail> {
-    for mode in [Mode::Strict, Mode::Epoch, Mode::Strand] {
-        let config = Config { mode, ..MACHINE };
+    let modes = [(Mode::Strict, 1), (Mode::Epoch, 2), (Mode::Strand, 1)];
+    for (mode, ways) in modes {
+        let config = Config {
+            mode,
+            ways,
+            ..MACHINE
+        };
         let mut first = RamModule::new(alloc, 2)?;
         let mut second = RamModule::new(alloc, 2)?;
         first.fail_at(3)?;

@@ -18,16 +18,16 @@ impl Machine {
         ensures step { Steps self.old.machine self.new.machine (bank_seen holds bank.old) (bank_seen holds bank.new) (Write j) result }
         ensures parts { PartsStand self.new }
     {
-        self.plain.keeps();
+        self.pipeline.keeps();
         match self.parts.write(j, bank) {
             WriteTurn::Written(r) => {
-                let p = self.plain.trace().persist_at(r.number);
-                self.plain.write(j, p, r.number);
-                self.parts.release(r, self.plain.durable());
+                let p = self.pipeline.trace().persist_at(r.number);
+                self.pipeline.write(j, p, r.number);
+                self.parts.release(r, self.pipeline.durable());
                 Turn::Done
             }
-            WriteTurn::NoEntry => self.plain.bubble(Cause::NoEntry),
-            WriteTurn::OlderWaits => self.plain.bubble(Cause::OlderWaits),
+            WriteTurn::NoEntry => self.pipeline.bubble(Cause::NoEntry),
+            WriteTurn::OlderWaits => self.pipeline.bubble(Cause::OlderWaits),
             WriteTurn::Fault { module } => Turn::Fault { module },
         }
     }

@@ -11,14 +11,14 @@ use Rattle.strand_report.specs.Report.{View, fault_lines, report_parts, report_t
 
 -- the lines before
 abbrev lines_before : View → List ℕ → List ℕ
-lines_before view chain = concat (take 8 (report_parts view chain))
+lines_before view chain = concat (take 9 (report_parts view chain))
 
 pub last_line : (view : View) (chain : List ℕ) (fault : ModuleFault) → view.fault ≡ Some fault
     → (front : List ℕ) × (report_text view chain ≡ front ++ module_fault_line fault)
 unfolding report_text
 last_line view chain fault e = (
   lines_before view chain,
-  concat-append (take 8 (report_parts view chain)) (fault_lines view.fault ∷ [])
+  concat-append (take 9 (report_parts view chain)) (fault_lines view.fault ∷ [])
       ∙ ap (λ (s : List ℕ). lines_before view chain ++ s) (append-nil (fault_lines view.fault))
       ∙ ap (λ (f : Option ModuleFault). lines_before view chain ++ fault_lines f) e,
 )

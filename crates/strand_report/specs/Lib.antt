@@ -1,4 +1,5 @@
 pub mod Bubbles
+pub mod Caches
 pub mod Cores
 pub mod FaultLines
 pub mod Fields

@@ -9,9 +9,11 @@ use Rattle.strand_base.specs.Text.{line_text}
 use Rattle.strand_exec.specs.Core.{Core}
 use Rattle.strand_exec.specs.Memory.{Memory}
 use Rattle.strand_events.specs.declared.event.Event.{Event}
+use Rattle.strand_cache.specs.declared.counts.Counts.{Counts}
 use Rattle.strand_rules.specs.declared.turn.BubbleAt.{BubbleAt}
 use Rattle.strand_report.specs.declared.module_fault.ModuleFault.{ModuleFault}
 use Rattle.strand_report.specs.Bubbles.{bubble_lines}
+use Rattle.strand_report.specs.Caches.{cache_line}
 use Rattle.strand_report.specs.Cores.{core_lines}
 use Rattle.strand_report.specs.FaultLines.{module_fault_line}
 use Rattle.strand_report.specs.Numbered.{numbered}
@@ -20,7 +22,8 @@ use Rattle.strand_report.specs.Persists.{durable_line, path_line}
 use Rattle.strand_report.specs.Words.{held_lines, visible_lines}
 
 -- a run as it is seen when it has ended: how many steps were made, the cores, what they did, the steps that did nothing,
--- the memory that the cores see, what the modules hold, which persists are durable, and the refusal that ended it
+-- the memory that the cores see, what the modules hold, which persists are durable, how many accesses of each core hit and
+-- missed, and the refusal that ended it
 pub record View : Type 0 where
   pub stop : ℕ
   pub cores : List Core
@@ -29,6 +32,7 @@ pub record View : Type 0 where
   pub visible : Memory
   pub held : List ℕ
   pub durable : List Bool
+  pub counts : List Counts
   pub fault : Option ModuleFault
 
 -- "stop S": S steps were made
@@ -51,6 +55,7 @@ report_parts view chain =
     ∷ held_lines view.held
     ∷ durable_line view.durable
     ∷ path_line chain
+    ∷ numbered cache_line view.counts
     ∷ fault_lines view.fault
     ∷ []
 

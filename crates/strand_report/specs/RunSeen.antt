@@ -13,5 +13,6 @@ view_of view =
       visible = view.visible.now;
       held = view.held.now;
       durable = view.durable.now;
+      counts = view.counts.now;
       fault = view.fault;
     }

@@ -3,6 +3,7 @@
 #![tactic(auto)]
 
 mod bubbles;
+mod caches;
 mod cores;
 mod durable;
 mod fields;

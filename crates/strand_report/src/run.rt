@@ -3,6 +3,7 @@ ghost use Rattle.strand_report.specs.Report.{fault_lines, report_text, stop_line
 ghost use Rattle.strand_report.specs.RunSeen.{view_of};
 
 use crate::bubbles::put_bubbles;
+use crate::caches::put_caches;
 use crate::cores::put_cores;
 use crate::durable::put_durable;
 use crate::fields::Field::{Decimal, Word};
@@ -12,6 +13,7 @@ use crate::outs::put_outs;
 use crate::words::{put_visible, put_words};
 use crate::{ModuleFault, write_module_fault};
 use strand_base::OutOfMemory;
+use strand_cache::Counts;
 use strand_events::Trace;
 use strand_exec::{CoreState, FlatMemory, PERSISTENT_BASE};
 use strand_path::Path;
@@ -36,6 +38,8 @@ pub struct RunView<'a> {
     pub durable: &'a [bool],
     /// The chosen chain of the run's persists, which is printed, and what shows that none is longer.
     pub path: &'a Path,
+    /// How many accesses of each core hit and missed.
+    pub counts: &'a [Counts],
     /// What a module refused, if that ended the run.
     pub fault: Option<ModuleFault>,
 }
@@ -70,5 +74,6 @@ pub fn write_run(view: &RunView<'_>, into: &mut Vec<u8>) -> Result<(), OutOfMemo
     put_words(into, "pm", PERSISTENT_BASE, view.held)?;
     put_durable(into, view.durable)?;
     put_members(into, b"path", view.path.chain.as_slice())?;
+    put_caches(into, view.counts)?;
     put_fault(into, view.fault)
 }

@@ -8,6 +8,7 @@ use std::test::*;
 use strand_asm::AsmFault;
 use strand_asm_lines::{LineFault, LineKind};
 use strand_base::{Numbers, OutOfMemory};
+use strand_cache::Counts;
 use strand_events::{Event, Trace};
 use strand_exec::{CoreState, FlatMemory, Life, Trap};
 use strand_image::{ImageFault, Quantity};
@@ -55,6 +56,7 @@ fn a_report_is_as_printed(rt: HostRuntime) -> Result<(), Fail> {
         held: &[0, 0],
         durable: &[],
         path: &path_of(rt.alloc(), &[])?,
+        counts: &[Counts { hits: 2, misses: 1 }],
         fault: Some(ModuleFault {
             module: 0,
             phase: ModulePhase::Step { cycle: 5 },
@@ -70,6 +72,7 @@ fn a_report_is_as_printed(rt: HostRuntime) -> Result<(), Fail> {
         reg 0 x2 0000000040000000\n\
         durable 0:\n\
         path 0:\n\
+        cache 0 hits 2 misses 1\n\
         fault module 0 step 5\n"
             .as_slice()
     );
@@ -129,6 +132,13 @@ fn every_line_of_a_report_is_as_printed(rt: HostRuntime) -> Result<(), Fail> {
     durable[0] = true;
     durable[3] = true;
     durable[11] = true;
+    let counts = [
+        Counts { hits: 0, misses: 0 },
+        Counts {
+            hits: u64::MAX,
+            misses: 10,
+        },
+    ];
     let view = RunView {
         stop: 200_000,
         cores: &every,
@@ -138,6 +148,7 @@ fn every_line_of_a_report_is_as_printed(rt: HostRuntime) -> Result<(), Fail> {
         held: &[1, 0, 0xab],
         durable: &durable,
         path: &path_of(rt.alloc(), &[0, 4, 11])?,
+        counts: &counts,
         fault: None,
     };
     let mut text = Vec::new(rt.alloc());
@@ -167,7 +178,9 @@ fn every_line_of_a_report_is_as_printed(rt: HostRuntime) -> Result<(), Fail> {
         pm 0000000040000000 0000000000000001\n\
         pm 0000000040000010 00000000000000ab\n\
         durable 3: 0 3 11\n\
-        path 3: 0 4 11\n"
+        path 3: 0 4 11\n\
+        cache 0 hits 0 misses 0\n\
+        cache 1 hits 18446744073709551615 misses 10\n"
             .as_slice()
     );
     Ok(())

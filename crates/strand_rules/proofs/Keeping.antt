@@ -5,41 +5,16 @@ use Rattle.std.specs.declared.option.Option.{Option}
 use Rattle.std.proofs.lemmas.Bool.{cases_Bool, cases_eq, ltb-true, ltb-false, true≢false}
 use Rattle.std.proofs.lemmas.List.Edits.{length-remove, get_or-remove_below, get_or-remove_above}
 use Rattle.strand_exec.specs.Core.{Core}
-use Rattle.strand_exec.specs.Memory.{Memory, with_word}
-use Rattle.strand_exec.specs.Plan.{IsWord}
-use Rattle.strand_exec.specs.Plan as plan
-use Rattle.strand_exec.specs.declared.planned.Plan.{Plan}
-use Rattle.strand_exec.specs.declared.planned.Plan.TheVariants.{Plain, Load, Store, Barrier, NewStrand, Join, Out, Halt, Trap}
-use Rattle.strand_exec.proofs.StoresData.{stores_data}
 use Rattle.strand_events.specs.declared.event.Event.{Event}
+use Rattle.strand_events.specs.Places.{LieIn}
 use Rattle.strand_events.specs.Trace.{is_persist, event_is}
 use Rattle.strand_events.specs.Order.{held}
 use Rattle.strand_events.proofs.Prefix.{event_is_kept}
-use Rattle.strand_rules.specs.Visible.{event_of, memory_after, grown}
+use Rattle.strand_rules.specs.Visible.{grown}
 use Rattle.strand_rules.specs.Cycle.{State, unmarked, gone, send_after, write_after}
 use Rattle.strand_rules.specs.Machine.{Machine, made_to}
 use Rattle.strand_rules.specs.Kept.{IsKept}
-use Rattle.strand_rules.proofs.Placing.{event_placed}
 use Rattle.strand_rules.proofs.Marked.{held_unmarked, held_within, held_set, held_other}
-
-volatile_kept : (m : Memory) (word value : ℕ) → length (with_word m word value).volatile ≡ length m.volatile
-unfolding with_word
-volatile_kept m word value = elim (cases_Bool (nat_lt word 0x40000000)) [ inl e ↦ rw e (length-set _ _ _) | inr e ↦ rw e refl ]
-
-persistent_kept : (m : Memory) (word value : ℕ) → length (with_word m word value).persistent ≡ length m.persistent
-unfolding with_word
-persistent_kept m word value = elim (cases_Bool (nat_lt word 0x40000000)) [ inl e ↦ rw e refl | inr e ↦ rw e (length-set _ _ _) ]
-
-memory_kept : (m : Memory) (p : Plan) → (length (memory_after m p).volatile ≡ length m.volatile) × (length (memory_after m p).persistent ≡ length m.persistent)
-memory_kept m Plain = (refl, refl)
-memory_kept m (Load word) = (refl, refl)
-memory_kept m (Store word mask bits) = (volatile_kept m word _, persistent_kept m word _)
-memory_kept m Barrier = (refl, refl)
-memory_kept m NewStrand = (refl, refl)
-memory_kept m Join = (refl, refl)
-memory_kept m (Out value) = (refl, refl)
-memory_kept m Halt = (refl, refl)
-memory_kept m (Trap trap) = (refl, refl)
 
 grown_length : (t : List Event) (o : Option Event) → length (grown t o) ≤ length t + 1
 grown_length t None = omega arith
@@ -59,37 +34,32 @@ pub marks_length : (t : List Event) (o : Option Event) (marks : List Bool) → l
 marks_length t None marks same = same
 marks_length t (Some e) marks same = omega (arith, same, length-append t (e ∷ []), length-append marks (false ∷ []))
 
--- the state after an instruction of core n, from its parts
-abbrev pub acted_state : State → List Core → ℕ → Plan → State
-acted_state s cores n p = record s {
-  now = record { cores = cores; memory = memory_after s.now.memory p; trace = grown s.now.trace (event_of n s.now.memory p) };
+-- the state after core n retired an instruction that made this event, with these cores
+abbrev pub retired_state : State → List Core → ℕ → Option Event → State
+retired_state s cores n o = record s {
+  now = record s.now { cores = cores; trace = grown s.now.trace o };
   retired = s.retired ++ n ∷ [];
-  buffered = unmarked s.buffered (event_of n s.now.memory p);
-  durable = unmarked s.durable (event_of n s.now.memory p);
+  buffered = unmarked s.buffered o;
+  durable = unmarked s.durable o;
 }
 
-pub kept_core : (m : Machine) (cores : List Core) (n : ℕ) (p : Plan) → length cores ≡ length m.state.now.cores → IsKept m → m.made < m.steps → plan.IsPlaced m.program.sizes p
-    → IsKept (made_to m (acted_state m.state cores n p))
-kept_core m cores n p same kept room placed =
-    let memory = memory_kept m.state.now.memory p in
-    let event = event_of n m.state.now.memory p in
-    record {
-      cores = omega (arith, same, kept.cores);
-      few_volatile = kept.few_volatile;
-      volatile = memory.0 ∙ kept.volatile;
-      persistent = memory.1 ∙ kept.persistent;
-      placed = event_placed m.program.sizes n m.state.now.memory p m.state.now.trace kept.few_volatile (stores_data m.program.sizes p placed) kept.placed;
-      made_within = omega arith;
-      few_steps = kept.few_steps;
-      few_events = omega (arith, grown_length m.state.now.trace event, kept.few_events);
-      few_retired = omega (arith, length-append m.state.retired (n ∷ []), kept.few_retired);
-      dispatched = kept.dispatched ∙ sym same;
-      buffered = marks_length m.state.now.trace event m.state.buffered kept.buffered;
-      durable = marks_length m.state.now.trace event m.state.durable kept.durable;
-      few_sent = kept.few_sent;
-      waiting = λ k marked. grown_is m.state.now.trace event k (kept.waiting k (sym (held_unmarked m.state.buffered event k) ∙ marked));
-      sent = λ i lt. grown_is m.state.now.trace event (slice_index m.state.flight i) (kept.sent i lt);
-    }
+pub kept_core : (m : Machine) (cores : List Core) (n : ℕ) (o : Option Event) → length cores ≡ length m.state.now.cores → LieIn (grown m.state.now.trace o) m.program.sizes.persistent
+    → IsKept m → m.made < m.steps → IsKept (made_to m (retired_state m.state cores n o))
+kept_core m cores n o same placed kept room = record {
+  cores = omega (arith, same, kept.cores);
+  few_volatile = kept.few_volatile;
+  placed = placed;
+  made_within = omega arith;
+  few_steps = kept.few_steps;
+  few_events = omega (arith, grown_length m.state.now.trace o, kept.few_events);
+  few_retired = omega (arith, length-append m.state.retired (n ∷ []), kept.few_retired);
+  dispatched = kept.dispatched ∙ sym same;
+  buffered = marks_length m.state.now.trace o m.state.buffered kept.buffered;
+  durable = marks_length m.state.now.trace o m.state.durable kept.durable;
+  few_sent = kept.few_sent;
+  waiting = λ k marked. grown_is m.state.now.trace o k (kept.waiting k (sym (held_unmarked m.state.buffered o k) ∙ marked));
+  sent = λ i lt. grown_is m.state.now.trace o (slice_index m.state.flight i) (kept.sent i lt);
+}
 
 -- a step that moves no core
 kept_moved : (m : Machine) (dispatched : List ℕ) (buffered : List Bool) (flight : List ℕ) (durable : List Bool) → IsKept m → m.made < m.steps
@@ -100,8 +70,6 @@ kept_moved : (m : Machine) (dispatched : List ℕ) (buffered : List Bool) (fligh
 kept_moved m dispatched buffered flight durable kept room d b u few waiting sent = record {
   cores = kept.cores;
   few_volatile = kept.few_volatile;
-  volatile = kept.volatile;
-  persistent = kept.persistent;
   placed = kept.placed;
   made_within = omega arith;
   few_steps = kept.few_steps;
@@ -170,8 +138,6 @@ kept_write m j p kept room lt =
 pub record IsStart (m : Machine) : Type 0 where
   pub cores : length m.state.now.cores ≤ 4
   pub few_volatile : m.program.sizes.volatile ≤ 1048576
-  pub volatile : length m.state.now.memory.volatile ≡ m.program.sizes.volatile
-  pub persistent : length m.state.now.memory.persistent ≡ m.program.sizes.persistent
   pub few_steps : m.steps < 2 ^ 32
   pub made : m.made ≡ 0
   pub trace : m.state.now.trace ≡ []
@@ -185,8 +151,6 @@ pub kept_start : (m : Machine) → IsStart m → IsKept m
 kept_start m s = record {
   cores = s.cores;
   few_volatile = s.few_volatile;
-  volatile = s.volatile;
-  persistent = s.persistent;
   placed = rw s.trace (λ p is. absurd (true≢false (sym is)));
   made_within = omega (arith, s.made);
   few_steps = s.few_steps;

@@ -5,6 +5,7 @@ pub mod Dispatching
 pub mod Keeping
 pub mod Fronts
 pub mod Retiring
+pub mod WithMemory
 pub mod Sending
 pub mod Setup
 pub mod Sets
@@ -38,4 +39,5 @@ pub mod BegunItem
 pub mod Fits
 pub mod OneStrand
 pub mod Reached
+pub mod PlainSteps
 pub mod Waiting

@@ -18,6 +18,7 @@ use Rattle.strand_rules.specs.declared.turn.Cause.TheVariants as causes
 use Rattle.strand_rules.specs.declared.turn.Turn.TheVariants.{Done, Bubble}
 use Rattle.strand_rules.specs.Cycle.{State, core_turn, made_turn, item_turn, send_turn, write_turn, turn, event_in, next_event, front, eligible, older_waits, core_after, item_after, send_after, write_after, done_after, after_turn, after, run, start_at, durable_set, IsReached}
 use Rattle.strand_rules.specs.Machine.{Machine, Steps, StandsOn, stepped}
+use Rattle.strand_rules.specs.Pipeline.{IsReachedWithSome, with_memory}
 use Rattle.strand_rules.proofs.Keeping.{IsStart}
 use Rattle.strand_rules.proofs.Good.{IsGood, start_good}
 use Rattle.strand_rules.proofs.GoodRun.{run_good, good_closed}
@@ -31,7 +32,7 @@ reached_good g p s (cores, memory, steps, is) = subst (IsGood g) (sym is) (run_g
 pub reached_fit : (g : Settings) (p : Program) (s : State) → IsReached g p s → IsFit g s
 reached_fit g p s (cores, memory, steps, is) = subst (IsFit g) (sym is) (run_fit g p (start_at cores memory) steps (start_good g cores memory) (start_fit g cores memory))
 
-reached_placed : (g : Settings) (p : Program) (s : State) → p.sizes.volatile ≤ 1048576 → IsReached g p s → ArePlaced p s.now.trace
+pub reached_placed : (g : Settings) (p : Program) (s : State) → p.sizes.volatile ≤ 1048576 → IsReached g p s → ArePlaced p s.now.trace
 reached_placed g p s small (cores, memory, steps, is) = subst (λ (s : State). ArePlaced p s.now.trace) (sym is) (run_placed p small g (start_at cores memory) steps (λ q is. absurd (true≢false (sym is))))
 
 pub start_reached : (g : Settings) (p : Program) (cores : List cores.Core) (memory : Memory) → IsReached g p (start_at cores memory)
@@ -55,14 +56,13 @@ run_more : (g : Settings) (p : Program) (s : State) (steps : List Step) (step : 
 run_more g p s [] step = refl
 run_more g p s (first ∷ steps) step = run_more g p (after g p s first) steps step
 
+pub reached_after : (g : Settings) (p : Program) (s : State) (step : Step) → IsReached g p s → IsReached g p (after g p s step)
+reached_after g p s step (cores, memory, steps, is) =
+    (cores, memory, steps ++ step ∷ [], ap (λ s. after g p s step) is ∙ sym (run_more g p (start_at cores memory) steps step))
+
 -- a step that is done
 pub reached_done : (g : Settings) (p : Program) (s : State) (step : Step) → IsReached g p s → turn g p s step ≡ Done → IsReached g p (done_after g p s step)
-reached_done g p s step (cores, memory, steps, is) done = (
-  cores,
-  memory,
-  steps ++ step ∷ [],
-  ap (λ t. after_turn t s (done_after g p s step)) (sym done) ∙ ap (λ s. after g p s step) is ∙ sym (run_more g p (start_at cores memory) steps step),
-)
+reached_done g p s step reached done = subst (IsReached g p) (ap (λ t. after_turn t s (done_after g p s step)) done) (reached_after g p s step reached)
 
 pub reached_stands : (old new : Machine) (step : Step) (t : Turn) (bank bank' : BankSeen) → IsReached old.config old.program old.state → old.program.sizes.volatile ≤ 1048576
     → Steps old new bank bank' step t → StandsOn old.program.sizes.persistent old.state new.state bank bank'
@@ -110,3 +110,16 @@ reached_closed g p s reached = good_closed g s (reached_good g p s reached)
 
 pub reached_joined : (g : Settings) (p : Program) (s : State) → IsReached g p s → HoldsJoined s.now.trace (durable_set s)
 reached_joined g p s reached = (reached_good g p s reached).ordered.drained
+
+-- the same where a run reaches the state with some memory
+pub item_reached_with_some : (m : Machine) (n k : ℕ) → IsReachedWithSome m.config m.program m.state → front m.config m.state n ≡ Some k
+    → item_turn m.config m.state n (Some k) ≡ Done → IsReachedWithSome m.config m.program (item_after m.state n (Some k))
+item_reached_with_some m n k (memory, reached) first done = (memory, item_reached (with_memory memory m) n k reached first done)
+
+pub send_reached_with_some : (m : Machine) (n b j p : ℕ) → IsReachedWithSome m.config m.program m.state → Some p ≡ slice_get (eligible m.config m.state n b) j
+    → (length m.state.flight == m.config.flight) ≡ false → IsReachedWithSome m.config m.program (send_after m.state (Some p))
+send_reached_with_some m n b j p (memory, reached) at room = (memory, send_reached (with_memory memory m) n b j p reached at room)
+
+pub write_reached_with_some : (m : Machine) (j p : ℕ) → IsReachedWithSome m.config m.program m.state → Some p ≡ slice_get m.state.flight j
+    → older_waits m.state j p ≡ false → IsReachedWithSome m.config m.program (write_after m.state j (Some p))
+write_reached_with_some m j p (memory, reached) at alone = (memory, write_reached (with_memory memory m) j p reached at alone)

@@ -3,16 +3,14 @@ use Rattle.std.specs.Prelude.{◌≡◌, ℕ, ◌^◌, ◌<◌, ◌≤◌, true,
 use Rattle.strand_events.specs.Trace.{is_persist, event_is}
 use Rattle.strand_events.specs.Order.{held}
 use Rattle.strand_events.specs.Places.{LieIn}
-use Rattle.strand_rules.specs.declared.plain_machine.PlainMachine.TheInside.{Inside}
-use Rattle.strand_rules.specs.Cycle.{IsReached}
+use Rattle.strand_rules.specs.declared.pipeline.Pipeline.TheInside.{Inside}
 use Rattle.strand_rules.specs.Machine.{Machine, durable_persists}
+use Rattle.strand_rules.specs.Pipeline.{no_memory, IsReachedWithSome}
 
 -- what a step needs of a machine, and keeps
 pub record IsKept (m : Machine) : Type 0 where
   pub cores : length m.state.now.cores ≤ 4
   pub few_volatile : m.program.sizes.volatile ≤ 1048576
-  pub volatile : length m.state.now.memory.volatile ≡ m.program.sizes.volatile
-  pub persistent : length m.state.now.memory.persistent ≡ m.program.sizes.persistent
   pub placed : LieIn m.state.now.trace m.program.sizes.persistent
   pub made_within : m.made ≤ m.steps
   pub few_steps : m.steps < 2 ^ 32
@@ -26,13 +24,13 @@ pub record IsKept (m : Machine) : Type 0 where
   pub waiting : (p : ℕ) → held m.state.buffered p ≡ true → event_is is_persist m.state.now.trace p ≡ true
   pub sent : (i : ℕ) → i < length m.state.flight → event_is is_persist m.state.now.trace (slice_index m.state.flight i) ≡ true
 
--- the machine of the fields
+-- the machine of the fields, with no memory
 abbrev pub seen : Inside → Machine
 seen m = record {
   config = m.config;
   program = record { code = m.code; sizes = m.sizes };
   state = record {
-    now = record { cores = m.cores.items; memory = m.memory; trace = m.trace.events };
+    now = record { cores = m.cores.items; memory = no_memory; trace = m.trace.events };
     retired = m.retired.items;
     dispatched = m.dispatched.items;
     buffered = m.buffered.items;
@@ -43,10 +41,10 @@ seen m = record {
   steps = m.steps;
 }
 
--- A run reaches the machine's state. The machine has room for all its steps, and marks each persist as durable or not.
+-- A run reaches the machine's state, with some memory. The machine has room for all its steps, and marks each persist as durable or not.
 pub record IsHeld (m : Inside) : Type 0 where
   pub kept : IsKept (seen m)
-  pub reached : IsReached (seen m).config (seen m).program (seen m).state
+  pub reached : IsReachedWithSome (seen m).config (seen m).program (seen m).state
   pub persisted : m.persisted.items ≡ durable_persists (seen m).state
   pub room : m.trace.room ≡ m.steps
   pub retired_room : m.steps ≤ vec_capacity m.retired

@@ -2,8 +2,10 @@ pub mod Visible
 pub mod Images
 pub mod Cycle
 pub mod Machine
+pub mod Pipeline
 pub mod Run
 pub mod Bubbles
 pub mod Looking
 pub mod Kept
+pub mod KeptPlain
 pub mod Parts

@@ -1,20 +1,22 @@
 // What an instruction does to the memory and the trace.
 ghost use Rattle.std.specs.Prelude.{◌≡◌, ◌<◌, ◌≤◌, ◌++◌, [], ◌∷◌, IfSome, length, vec_len, vec_capacity, if◌then◌else◌};
-ghost use Rattle.strand_exec.specs.Memory.{extents_of};
+ghost use Rattle.strand_exec.specs.Memory.{Memory, extents_of};
 ghost use Rattle.strand_exec.specs.Plan.{IsPlaced};
 ghost use Rattle.strand_events.specs.Fits.{EventFits};
 ghost use Rattle.strand_rules.specs.Visible.{event_of, memory_after, loaded, grown};
 ghost use Rattle.strand_rules.specs.Cycle.{unmarked};
 ghost use Rattle.strand_rules.specs.Looking.{persists_unmarked};
+ghost use Rattle.strand_rules.specs.Pipeline.{overwritten};
 
 use strand_events::{Event, Trace};
 use strand_exec::{FlatMemory, PERSISTENT_BASE, Plan, merged};
 
-// The event that core n's instruction makes.
-pub(crate) fn event_of(core: u32, memory: &FlatMemory, plan: Plan) -> Option<Event>
-    requires core { core < 8 }
-    requires placed { IsPlaced (extents_of memory.now) plan }
-    ensures event { result ≡ event_of core memory.now plan }
+/// The event that core n's instruction with this plan makes, if any. `before` is the word that a store
+/// finds, and isn't used else.
+pub fn made_event(core: u32, plan: Plan, before: u64) -> Option<Event>
+    requires { core < 8 }
+    ensures event { (memory : Memory) → before ≡ overwritten memory plan
+        → result ≡ event_of core memory plan }
     ensures fits { IfSome result EventFits }
 {
     match plan {
@@ -22,7 +24,7 @@ pub(crate) fn event_of(core: u32, memory: &FlatMemory, plan: Plan) -> Option<Eve
         Plan::Store { word, mask, bits } => Some(Event::Store {
             core,
             word,
-            value: merged(memory.read(word), mask, bits),
+            value: merged(before, mask, bits),
             persist: word >= PERSISTENT_BASE,
         }),
         Plan::Barrier => Some(Event::Barrier { core }),
@@ -33,10 +35,22 @@ pub(crate) fn event_of(core: u32, memory: &FlatMemory, plan: Plan) -> Option<Eve
     }
 }
 
+// The word that a store finds.
+pub(crate) fn overwritten(memory: &FlatMemory, plan: Plan) -> u64
+    requires { IsPlaced (extents_of memory.now) plan }
+    ensures { result ≡ overwritten memory.now plan }
+{
+    match plan {
+        Plan::Store { word, .. } => memory.read(word),
+        _ => 0,
+    }
+}
+
 // The instruction, as far as it changes the memory; the word that a load finds.
 pub(crate) fn act(memory: &mut FlatMemory, plan: Plan) -> u64
     requires { IsPlaced (extents_of memory.old) plan }
     ensures memory { memory.new ≡ memory_after memory.old plan }
+    ensures extents { extents_of memory.new ≡ extents_of memory.old }
     ensures loaded { result ≡ loaded memory.old plan }
 {
     match plan {

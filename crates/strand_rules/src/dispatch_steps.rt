@@ -2,16 +2,17 @@
 ghost use Rattle.std.specs.Prelude.{◌≡◌, ◌<◌, ◌+◌, ◌-◌, ◌^◌, IfSome, Some, None, if◌then◌else◌, length, slice_index, slice_set, vec_capacity};
 ghost use Rattle.strand_events.specs.Trace.{event_is, is_persist, strand_number};
 ghost use Rattle.strand_inputs.specs.declared.step.Step.TheVariants.{Dispatch};
-ghost use Rattle.strand_rules.specs.Cycle.{turn, front, ring_use, buffer_of, buffer_busy, item_turn, item_after, IsReached};
+ghost use Rattle.strand_rules.specs.Cycle.{turn, front, ring_use, buffer_of, buffer_busy, item_turn, item_after};
 ghost use Rattle.strand_rules.specs.Looking.{marked_at};
 ghost use Rattle.strand_rules.specs.Machine.{FrontIs, stepped, made_to};
+ghost use Rattle.strand_rules.specs.Pipeline.{IsReachedWithSome};
 
-use crate::PlainMachine;
 use crate::dispatch_rules::{buffer_busy, item_at, ring_use};
 use crate::items::is_persist_at;
+use crate::pipeline::Pipeline;
 use crate::turn::{Cause, Turn};
 
-impl PlainMachine {
+impl Pipeline {
     // The first item of core n's queue.
     fn front(&self, n: u32) -> Option<usize>
         requires { n < length self.now.state.now.cores }
@@ -91,7 +92,8 @@ impl PlainMachine {
         requires room { self.old.made < self.old.steps }
         requires core { n < length self.old.state.now.cores }
         requires front { FrontIs self.old.config self.old.state n persist }
-        requires reached { IsReached self.old.config self.old.program (item_after self.old.state n (front self.old.config self.old.state n)) }
+        requires reached { IsReachedWithSome self.old.config self.old.program
+            (item_after self.old.state n (front self.old.config self.old.state n)) }
         ensures { self.new ≡ made_to self.old (item_after self.old.state n (front self.old.config self.old.state n)) }
     {
         mark_item(&mut self.dispatched, &mut self.buffered, n, persist);

@@ -9,16 +9,20 @@ mod dispatch_rules;
 mod dispatch_steps;
 mod items;
 mod laws;
+mod pipeline;
 mod plain_machine;
+mod plain_steps;
 mod send_rules;
 #[cfg(test)]
 mod tests;
 mod turn;
 mod write_steps;
 
+pub use acting::made_event;
 pub use items::is_item;
 pub use laws::{
     durable_sets_are_allowed, images_follow_the_trace, parts_are_kept, visible_runs_are_kept,
 };
+pub use pipeline::Pipeline;
 pub use plain_machine::PlainMachine;
 pub use turn::{BubbleAt, Cause, StepFault, Turn};

@@ -1,44 +1,29 @@
-ghost use Rattle.std.specs.Prelude.{◌≡◌, ◌<◌, ◌≤◌, IfOk, Some, All, map, length, replicate, slice_get};
-ghost use Rattle.strand_exec.specs.Core.{fresh};
+ghost use Rattle.std.specs.Prelude.{◌≡◌, ◌<◌, ◌≤◌, IfOk, Some, length, slice_get};
 ghost use Rattle.strand_inputs.specs.Schedule.{IsBelow};
-ghost use Rattle.strand_events.specs.Fits.{AllFit};
 ghost use Rattle.strand_events.specs.Order.{HoldsJoined, IsDownwardClosed};
 ghost use Rattle.strand_events.specs.Places.{LieIn};
 ghost use Rattle.strand_modules.specs.Seen.{bank_seen};
-ghost use Rattle.strand_rules.specs.Cycle.{IsReached, durable_set};
-ghost use Rattle.strand_rules.specs.Kept.{IsKept};
-ghost use Rattle.strand_rules.specs.Machine.{machine_at, made_to, durable_persists, SameSetup, StandsOn, Steps};
+ghost use Rattle.strand_rules.specs.Cycle.{durable_set};
+ghost use Rattle.strand_rules.specs.Machine.{machine_at, durable_persists, SameSetup, StandsOn, Steps};
 
-use crate::turn::{Cause, Turn};
+use crate::pipeline::Pipeline;
+use crate::turn::Turn;
 use std::alloc::Global;
 use std::marker::Model;
 use strand_base::OutOfMemory;
 use strand_events::Trace;
-use strand_exec::{Code, CoreState, FlatMemory, Sizes};
+use strand_exec::{CoreState, FlatMemory, Sizes};
 use strand_image::Image;
 use strand_inputs::{Config, Step};
 use strand_modules::ModuleBank;
 
 /// The machine that runs an image under a schedule, one step at a time, by the cycle rules
-/// (docs/cycle.md). It takes no memory after it is made, and `step` looks back over its trace. The calls
-/// that change the state as a step that is done does, `retire`, `dispatch`, `send` and `write`, don't:
-/// another machine may call them once it has decided in its own way.
+/// (docs/cycle.md), over one flat memory. It takes no memory after it is made, and `step` looks back over
+/// its trace.
 #[derive(Drop)]
 pub struct PlainMachine {
-    pub(crate) config: Config,
-    pub(crate) code: Code,
-    pub(crate) sizes: Sizes,
-    pub(crate) cores: Vec<CoreState>,
+    pub(crate) pipeline: Pipeline,
     pub(crate) memory: FlatMemory,
-    pub(crate) trace: Trace,
-    pub(crate) retired: Vec<u32>,
-    pub(crate) dispatched: Vec<u32>,
-    pub(crate) buffered: Vec<bool>,
-    pub(crate) flight: Vec<u32>,
-    pub(crate) durable: Vec<bool>,
-    pub(crate) persisted: Vec<bool>,
-    pub(crate) made: u64,
-    pub(crate) steps: u64,
 }
 
 impl Model for PlainMachine {
@@ -46,7 +31,7 @@ impl Model for PlainMachine {
 
     ghost Value = { Machine };
 
-    ghost use Rattle.strand_rules.specs.Kept.{seen, IsHeld};
+    ghost use Rattle.strand_rules.specs.KeptPlain.{seen, IsHeld};
 
     ghost view = { seen };
 
@@ -65,27 +50,9 @@ impl PlainMachine {
         requires { steps ≤ 200000 }
         ensures { IfOk result (λ m. m ≡ machine_at config.now image.now steps) }
     {
-        let room = steps as usize;
-        let sizes = Sizes {
-            volatile: image.volatile().len() as u32,
-            persistent: image.persistent().len() as u32,
-        };
-        let cores = fresh_cores(alloc, image.entries())?;
         Ok(PlainMachine {
-            config: *config,
-            code: Code::new(alloc, image.code())?,
-            sizes,
+            pipeline: Pipeline::new(alloc, config, image, steps)?,
             memory: FlatMemory::copy(alloc, image.volatile(), image.persistent())?,
-            trace: Trace::new(alloc, room)?,
-            retired: Vec::with_capacity(alloc, room)?,
-            dispatched: zeros(alloc, cores.len())?,
-            cores,
-            buffered: Vec::with_capacity(alloc, room)?,
-            flight: Vec::with_capacity(alloc, flight_limit(config))?,
-            durable: Vec::with_capacity(alloc, room)?,
-            persisted: Vec::with_capacity(alloc, room)?,
-            made: 0,
-            steps,
         })
     }
 
@@ -93,7 +60,7 @@ impl PlainMachine {
     pub fn made(&self) -> u64
         ensures { result ≡ self.now.made }
     {
-        self.made
+        self.pipeline.made()
     }
 
     /// What the cores did so far, with room for all steps. Its persists are to the persistent words of the
@@ -103,14 +70,14 @@ impl PlainMachine {
         ensures room { result.now.room ≡ self.now.steps }
         ensures placed { LieIn result.now.events self.now.program.sizes.persistent }
     {
-        &self.trace
+        self.pipeline.trace()
     }
 
     /// The cores that retired an instruction, in turn.
     pub fn retired(&self) -> &[u32]
         ensures { result.now ≡ self.now.state.retired }
     {
-        &self.retired
+        self.pipeline.retired()
     }
 
     /// Whether each persist is durable, by the numbers of the persists. The durable ones are
@@ -120,7 +87,7 @@ impl PlainMachine {
         ensures closed { IsDownwardClosed self.now.config.mode self.now.state.now.trace (durable_set self.now.state) }
         ensures joined { HoldsJoined self.now.state.now.trace (durable_set self.now.state) }
     {
-        &self.persisted
+        self.pipeline.durable()
     }
 
     /// The cores.
@@ -128,7 +95,7 @@ impl PlainMachine {
         ensures cores { result.now ≡ self.now.state.now.cores }
         ensures few { length result.now ≤ 4 }
     {
-        &self.cores
+        self.pipeline.cores()
     }
 
     /// Core n.
@@ -136,15 +103,15 @@ impl PlainMachine {
         requires { n < length self.now.state.now.cores }
         ensures { slice_get self.now.state.now.cores n ≡ Some result.now }
     {
-        &self.cores[n as usize]
+        self.pipeline.core(n)
     }
 
     /// A copy of the memory that the cores see.
     pub fn flatten(&self) -> Result<FlatMemory, OutOfMemory>
         ensures { IfOk result (λ memory. memory ≡ self.now.state.now.memory) }
     {
-        let alloc = *self.retired.allocator();
         let memory = &self.memory;
+        let alloc = *memory.volatile.allocator();
         FlatMemory::copy(alloc, &memory.volatile, &memory.persistent)
     }
 
@@ -152,37 +119,14 @@ impl PlainMachine {
     pub fn config(&self) -> Config
         ensures { result ≡ self.now.config }
     {
-        self.config
+        self.pipeline.config()
     }
 
     /// How many words the two data regions have.
     pub fn sizes(&self) -> Sizes
         ensures { result ≡ self.now.program.sizes }
     {
-        self.sizes
-    }
-
-    /// What holds of every machine: a run reaches its state (`reached`), its lists fit its cores, its trace
-    /// and its settings (`kept`), a trace can have its events (`fits`), and a core has a buffer (`buffers`).
-    pub fn keeps(&self)
-        ensures reached { IsReached self.now.config self.now.program self.now.state }
-        ensures kept { IsKept self.now }
-        ensures fits { AllFit self.now.state.now.trace }
-        ensures buffers { 0 < self.now.config.buffers }
-    {
-        let config = self.config;
-        let _buffers = config.buffers;
-        let _events = self.trace.events();
-    }
-
-    /// A step that changes nothing but the count of steps: a bubble of this cause.
-    pub fn bubble(&mut self, cause: Cause) -> Turn
-        requires { self.old.made < self.old.steps }
-        ensures turn { result ≡ Turn.Bubble cause }
-        ensures machine { self.new ≡ made_to self.old self.old.state }
-    {
-        self.made += 1;
-        Turn::Bubble(cause)
+        self.pipeline.sizes()
     }
 
     /// Makes a step, for a core and a buffer of the machine. It takes no memory. A fault comes only where
@@ -197,35 +141,12 @@ impl PlainMachine {
         ensures stands { StandsOn self.old.program.sizes.persistent self.old.state self.new.state
             (bank_seen holds bank.old) (bank_seen holds bank.new) }
     {
-        prove!(self.made < self.steps);
+        self.pipeline.keeps();
         match step {
             Step::Core(n) => self.step_core(n),
-            Step::Dispatch(n) => self.step_dispatch(n),
-            Step::Send(n, b, j) => self.step_send(n, b, j),
-            Step::Write(j) => self.step_write(j, bank),
+            Step::Dispatch(n) => self.pipeline.step_dispatch(n),
+            Step::Send(n, b, j) => self.pipeline.step_send(n, b, j),
+            Step::Write(j) => self.pipeline.step_write(j, bank),
         }
     }
-}
-
-// The cores at their entries.
-fn fresh_cores(alloc: Global, entries: &[u32]) -> Result<Vec<CoreState>, OutOfMemory>
-    requires { All (λ e. e < 65536) entries.now }
-    ensures { IfOk result (λ cores. cores.items ≡ map fresh entries.now) }
-{
-    let cores: Vec<CoreState> = entries.iter().map(|e| CoreState::new(*e)).collect(alloc)?;
-    Ok(cores)
-}
-
-// So many zeros.
-fn zeros(alloc: Global, count: usize) -> Result<Vec<u32>, OutOfMemory>
-    ensures { IfOk result (λ zeros. zeros.items ≡ replicate count 0) }
-{
-    Ok(vec![in alloc; 0; count]?)
-}
-
-// How many requests can be in flight.
-fn flight_limit(config: &Config) -> usize
-    ensures { result ≡ config.now.flight }
-{
-    config.flight as usize
 }

@@ -5,15 +5,16 @@ ghost use Rattle.strand_events.specs.Trace.{event_is, is_persist};
 ghost use Rattle.strand_events.specs.Order.{held};
 ghost use Rattle.strand_inputs.specs.declared.step.Step.TheVariants.{Send, Write};
 ghost use Rattle.strand_modules.specs.Seen.{bank_seen};
-ghost use Rattle.strand_rules.specs.Cycle.{turn, eligible, send_after, older_waits, request_of, write_after, IsReached};
+ghost use Rattle.strand_rules.specs.Cycle.{turn, eligible, send_after, older_waits, request_of, write_after};
 ghost use Rattle.strand_rules.specs.Machine.{stepped, made_to, Steps};
+ghost use Rattle.strand_rules.specs.Pipeline.{IsReachedWithSome};
 
-use crate::PlainMachine;
+use crate::pipeline::Pipeline;
 use crate::send_rules::{eligible_at, older_waits, persist_number, request};
 use crate::turn::{Cause, Turn};
 use strand_modules::{AtModule, ModuleBank};
 
-impl PlainMachine {
+impl Pipeline {
     // The eligible persist of buffer b of core n at place j.
     fn eligible_at(&self, n: u32, b: u32, j: u32) -> Option<usize>
         ensures eligible { result ≡ slice_get (eligible self.now.config self.now.state n b) j }
@@ -46,7 +47,8 @@ impl PlainMachine {
         requires room { self.old.made < self.old.steps }
         requires flight { length self.old.state.flight < self.old.config.flight }
         requires waits { held self.old.state.buffered p ≡ true }
-        requires reached { IsReached self.old.config self.old.program (send_after self.old.state (Some p)) }
+        requires reached { IsReachedWithSome self.old.config self.old.program
+            (send_after self.old.state (Some p)) }
         ensures { self.new ≡ made_to self.old (send_after self.old.state (Some p)) }
     {
         self.buffered[p] = false;
@@ -114,7 +116,8 @@ impl PlainMachine {
         requires request { slice_get self.old.state.flight j ≡ Some p }
         requires persist { event_is is_persist self.old.state.now.trace p ≡ true }
         requires number { number ≡ count_below p (event_is is_persist self.old.state.now.trace) }
-        requires reached { IsReached self.old.config self.old.program (write_after self.old.state j (Some p)) }
+        requires reached { IsReachedWithSome self.old.config self.old.program
+            (write_after self.old.state j (Some p)) }
         ensures { self.new ≡ made_to self.old (write_after self.old.state j (Some p)) }
     {
         self.flight.remove(j as usize);

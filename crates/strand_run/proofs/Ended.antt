@@ -66,9 +66,10 @@ nothing_run u bank (Ok x) = tt
 nothing_run u bank (Err e) = (keeps_same bank, untouched u bank)
 
 -- a report's view by the visible run
-same_view : (stop stop' : ℕ) (s s' : State) (v : Visible) (bubbles bubbles' : List BubbleAt) (words : List ℕ) (fault : Option StepFault) → stop ≡ stop' → s ≡ s' → bubbles ≡ bubbles' → s'.now ≡ v
-    → shown stop s.now bubbles words (durable_persists s) fault ≡ shown stop' v bubbles' words (durable_persists s') fault
-same_view stop stop' s s' v bubbles bubbles' words fault stop_is state bubbles_are now = rw (stop_is, state, bubbles_are, now) refl
+same_view : (g g' : Settings) (stop stop' : ℕ) (s s' : State) (v : Visible) (bubbles bubbles' : List BubbleAt) (words : List ℕ) (fault : Option StepFault)
+    → g ≡ g' → stop ≡ stop' → s ≡ s' → bubbles ≡ bubbles' → s'.now ≡ v
+    → shown g stop s.now bubbles words (durable_persists s) fault ≡ shown g' stop' v bubbles' words (durable_persists s') fault
+same_view g g' stop stop' s s' v bubbles bubbles' words fault config stop_is state bubbles_are now = rw (config, stop_is, state, bubbles_are, now) refl
 
 -- what may stand after the steps that were made
 pub may_after : (u : Inputs) (fault : Option StepFault) (loads : ℕ) (before after : BankSeen) → IfSome fault (λ f. f.step - 1 ≤ length u.steps) → loads ≤ length u.image.persistent
@@ -148,13 +149,16 @@ module _ (u : Inputs) (m0 m1 : Machine) (b0 b1 b2 b3 : BankSeen) (start : m0 ≡
           made_is : r.machine.machine.made ≡ length (steps_made fault u.steps)
           made_is = omega (arith, ap (λ (m : Machine). m.made) machine, again.made)
 
+          config_is : r.machine.machine.config ≡ u.config
+          config_is = ap (λ (m : Machine). m.config) machine ∙ again.config
+
           state_is : r.machine.machine.state ≡ state_after u (steps_made fault u.steps)
           state_is = ap (λ (m : Machine). m.state) machine ∙ again.state
 
           view_is : view_of r ≡ view_after u (steps_made fault u.steps) r.held r.fault
           view_is =
-              same_view r.machine.machine.made (length (steps_made fault u.steps)) r.machine.machine.state (state_after u (steps_made fault u.steps)) (visible_after u (steps_made fault u.steps)) r.bubbles.items
-              (bubbles_after u (steps_made fault u.steps)) r.held r.fault made_is state_is (bubbles_are ∙ again.bubbles_are) (seen u (steps_made fault u.steps))
+              same_view r.machine.machine.config u.config r.machine.machine.made (length (steps_made fault u.steps)) r.machine.machine.state (state_after u (steps_made fault u.steps)) (visible_after u (steps_made fault u.steps))
+              r.bubbles.items (bubbles_after u (steps_made fault u.steps)) r.held r.fault config_is made_is state_is (bubbles_are ∙ again.bubbles_are) (seen u (steps_made fault u.steps))
 
           tells : Tells u b0 r
           tells = record {

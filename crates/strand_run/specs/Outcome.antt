@@ -73,7 +73,7 @@ pub record MayLeave (u : Inputs) (before after : BankSeen) : Type 0 where
 
 -- what a report shows of a run
 abbrev pub view_of : Run → View
-view_of r = shown r.machine.machine.made r.machine.machine.state.now r.bubbles.items r.held (durable_persists r.machine.machine.state) r.fault
+view_of r = shown r.machine.machine.config r.machine.machine.made r.machine.machine.state.now r.bubbles.items r.held (durable_persists r.machine.machine.state) r.fault
 
 -- What is told of a run: the steps that were made, and the words that were read.
 pub record Tells (u : Inputs) (before : BankSeen) (r : Run) : Type 0 where

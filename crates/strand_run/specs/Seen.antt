@@ -2,9 +2,11 @@
 use Rattle.std.specs.Prelude.{◌≡◌, ℕ, ◌≤◌, Bool, List, length, OnSome}
 use Rattle.std.specs.Option.{option_map}
 use Rattle.std.specs.declared.option.Option.{Option}
+use Rattle.strand_inputs.specs.Settings.{Settings}
 use Rattle.strand_inputs.specs.declared.mode.Mode.{Mode}
 use Rattle.strand_inputs.specs.declared.step.Step.{Step}
 use Rattle.strand_events.specs.Order.{Set}
+use Rattle.strand_machine.specs.Cached.{cache_counts}
 use Rattle.strand_modules.specs.Bank.{BankSeen}
 use Rattle.strand_path.specs.Chains.{IsChain}
 use Rattle.strand_path.specs.Chosen.{IsChosenChain}
@@ -40,9 +42,10 @@ store_fault f = record { «module» = f.«module»; phase = phase.Step f.step }
 abbrev pub read_fault : ℕ → ModuleFault
 read_fault m = record { «module» = m; phase = phase.Read }
 
--- what a report shows: the steps, what the programs saw, the bubbles, the words that were read, which persists are durable, and the store that was refused
-abbrev pub shown : ℕ → Visible → List BubbleAt → List ℕ → List Bool → Option StepFault → View
-shown steps seen bubbles held durable fault = record {
+-- what a report shows: the steps, what the programs saw, the bubbles, the words that were read, which persists are durable, the hits and misses
+-- of the trace's accesses by the cache rule, and the store that was refused
+abbrev pub shown : Settings → ℕ → Visible → List BubbleAt → List ℕ → List Bool → Option StepFault → View
+shown g steps seen bubbles held durable fault = record {
   stop = steps;
   cores = seen.cores;
   trace = seen.trace;
@@ -50,12 +53,13 @@ shown steps seen bubbles held durable fault = record {
   visible = seen.memory;
   held = held;
   durable = durable;
+  counts = cache_counts g (length seen.cores) seen.trace;
   fault = option_map store_fault fault;
 }
 
 -- what it shows after some steps, by the visible run
 abbrev pub view_after : Inputs → List Step → List ℕ → Option StepFault → View
-view_after u steps held fault = shown (length steps) (visible_after u steps) (bubbles_after u steps) held (durable_persists (state_after u steps)) fault
+view_after u steps held fault = shown u.config (length steps) (visible_after u steps) (bubbles_after u steps) held (durable_persists (state_after u steps)) fault
 
 -- The text is a report of this, and its path is the chosen chain; no chain of persist order is longer.
 pub record Reports (mode : Mode) (view : View) (text : List ℕ) : Type 0 where

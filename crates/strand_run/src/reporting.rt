@@ -40,6 +40,7 @@ fn put_report(run: &Run, path: &Path, into: &mut Vec<u8>) -> Result<(), OutOfMem
         held: run.held.as_slice(),
         durable: run.machine.durable(),
         path,
+        counts: run.machine.all_counts(),
         fault: module_fault(run.fault),
     };
     write_run(&view, into)

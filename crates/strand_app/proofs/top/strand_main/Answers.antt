@@ -1,3 +1,4 @@
+use Rattle.strand_app.proofs.Afterwards.{afterwards_of, idle_of}
 use Rattle.strand_app.proofs.Calls.{no_command_of, memory_of}
 use Rattle.strand_app.proofs.Clauses as clause
 use Rattle.strand_app.proofs.RuleLaws.{sound_of}
@@ -8,6 +9,9 @@ returns-clause-visible g c = clause.tells_of _ _ (sound_of _ _) _ _ _ c.run_comm
 
 pub returns-clause-crash : goal.returns-clause-crash
 returns-clause-crash g c = clause.holds_of _ _ (sound_of _ _) _ _ _ c.run_command.ensures
+
+pub returns-clause-afterwards : goal.returns-clause-afterwards
+returns-clause-afterwards g c = afterwards_of _ _ (sound_of _ _) (idle_of _ _) _ _ _ c.run_command.ensures
 
 pub returns-clause-completeness : goal.returns-clause-completeness
 returns-clause-completeness g c = λ is_command quiet good. clause.complete_of _ _ (sound_of _ _) _ _ is_command quiet good _ c.run_command.ensures

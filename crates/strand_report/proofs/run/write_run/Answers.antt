@@ -80,10 +80,11 @@ returns-in_err-put_members c =
     (further _ _ c.in_ok-put_cores.ensures
     (further _ _ c.in_ok-put_stop.ensures (in_parts refl)))))))))
 
-pub returns : goal.returns
+pub returns-in_err-put_caches : goal.returns-in_err-put_caches
 unfolding report_text
-returns c =
-    last_of_all c.put_fault.result _ _ c.put_fault.ensures
+returns-in_err-put_caches c =
+    let p = err_from_is_err_and c.from_residual-in_err-put_caches.result c.from_residual-in_err-put_caches.ensures.1 in
+    rw p.1 (stopped _ _ c.in_err-put_caches.ensures
     (further _ _ (rw c.as_slice.ensures at c.in_ok-put_members.ensures)
     (further _ _ c.in_ok-put_durable.ensures
     (further _ _ c.in_ok-put_words.ensures
@@ -91,4 +92,18 @@ returns c =
     (further _ _ c.in_ok-put_bubbles.ensures
     (further _ _ (rw c.events.ensures.events at c.in_ok-put_outs.ensures)
     (further _ _ c.in_ok-put_cores.ensures
-    (further _ _ c.in_ok-put_stop.ensures (in_parts refl)))))))))
+    (further _ _ c.in_ok-put_stop.ensures (in_parts refl))))))))))
+
+pub returns : goal.returns
+unfolding report_text
+returns c =
+    last_of_all c.put_fault.result _ _ c.put_fault.ensures
+    (further _ _ c.in_ok-put_caches.ensures
+    (further _ _ (rw c.as_slice.ensures at c.in_ok-put_members.ensures)
+    (further _ _ c.in_ok-put_durable.ensures
+    (further _ _ c.in_ok-put_words.ensures
+    (further _ _ c.in_ok-put_visible.ensures
+    (further _ _ c.in_ok-put_bubbles.ensures
+    (further _ _ (rw c.events.ensures.events at c.in_ok-put_outs.ensures)
+    (further _ _ c.in_ok-put_cores.ensures
+    (further _ _ c.in_ok-put_stop.ensures (in_parts refl))))))))))

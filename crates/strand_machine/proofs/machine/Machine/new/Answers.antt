@@ -1,22 +1,36 @@
-use Rattle.std.proofs.Common.{◌∙◌, ap, length}
-use Rattle.std.specs.Prelude.{replicate}
-use Rattle.strand_machine.specs.Changed.{start_parts}
-use Rattle.strand_machine.proofs.StandStart.{stand_new, rooms_new}
+use Rattle.std.proofs.Common.{◌≡◌, ◌∙◌, map, sym, ap, subst}
+use Rattle.strand_exec.specs.Core.{fresh}
+use Rattle.strand_exec.specs.Memory.{extents_of}
+use Rattle.strand_rules.specs.Cycle.{IsReached}
+use Rattle.strand_rules.specs.Machine.{Machine, machine_at, program_of, start_of}
+use Rattle.strand_rules.specs.Pipeline.{with_memory}
+use Rattle.strand_rules.proofs.Reached.{start_reached}
+use Rattle.strand_machine.specs.KeptMachine.{IsHeld}
+use Rattle.strand_machine.specs.Stand.{PartsSeen}
+use Rattle.strand_machine.proofs.StandStart.{rooms_new, stand_new}
+use Rattle.strand_machine.proofs.machine.Machine.new.Goals.{In_ok-parts}
 use Rattle.strand_machine.proofs.machine.Machine.new.Goals as goal
 
-pub returns-clause-parts : goal.returns-clause-parts
-returns-clause-parts c =
-    let m = c.in_ok-plain.plain in
-    let parts = c.in_ok-parts.parts in
-    let known = c.in_ok-parts.ensures in
-    let cores = ap length c.cores.ensures.cores in
-    stand_new c.args.config.now c.args.image.now c.args.steps m parts c.in_ok-plain.ensures (known.parts ∙ ap (λ n. start_parts c.args.config.now n c.args.steps parts.tags) cores) (known.extents ∙ c.sizes.ensures)
-    (known.strands ∙ ap (λ n. replicate n 0) cores) (known.made ∙ ap (λ n. replicate n 0) cores) known.stands
+machine_is : (c : In_ok-parts) → with_memory c.in_ok-parts.parts.cache.memory c.in_ok-pipeline.pipeline ≡ machine_at c.args.config.now c.args.image.now c.args.steps
+machine_is c = ap (λ (p : PartsSeen). with_memory p.cache.memory c.in_ok-pipeline.pipeline) c.in_ok-parts.ensures.parts ∙ ap (with_memory (start_of c.args.image.now).now.memory) c.in_ok-pipeline.ensures
 
-pub invariant_of-result : goal.invariant_of-result
-invariant_of-result c =
+held : (c : In_ok-parts) → IsHeld (record { pipeline = c.in_ok-pipeline.pipeline; parts = c.in_ok-parts.parts })
+held c =
+    let is = machine_is c in
+    let m = with_memory c.in_ok-parts.parts.cache.memory c.in_ok-pipeline.pipeline in
     let known = c.in_ok-parts.ensures in
     record {
-      stand = returns-clause-parts c;
-      rooms = rooms_new c.args.config.now c.args.image.now c.args.steps c.in_ok-plain.plain c.in_ok-parts.parts c.in_ok-plain.ensures (known.parts ∙ ap (λ n. start_parts c.args.config.now n c.args.steps c.in_ok-parts.parts.tags) (ap length c.cores.ensures.cores));
+      stand = stand_new c.args.config.now c.args.image.now c.args.steps m c.in_ok-parts.parts is known.parts (known.extents ∙ c.sizes.ensures ∙ ap (λ (m : Machine). m.program.sizes) c.in_ok-pipeline.ensures) known.strands known.made known.noted known.accesses;
+      rooms = rooms_new c.args.config.now c.args.image.now c.args.steps m c.in_ok-parts.parts is known.parts;
+      reached = subst (λ (m : Machine). IsReached m.config m.program m.state) (sym is) (start_reached c.args.config.now (program_of c.args.image.now) (map fresh c.args.image.now.entries) (start_of c.args.image.now).now.memory);
+      extents = ap (λ (m : Machine). extents_of m.state.now.memory) is ∙ sym (ap (λ (m : Machine). m.program.sizes) is);
     }
+
+pub returns-clause-machine : goal.returns-clause-machine
+returns-clause-machine c = machine_is (goal.at.returns-clause-machine c).In_ok-parts
+
+pub returns-clause-parts : goal.returns-clause-parts
+returns-clause-parts c = (held (goal.at.returns-clause-parts c).In_ok-parts).stand
+
+pub invariant_of-result : goal.invariant_of-result
+invariant_of-result c = held (goal.at.invariant_of-result c).In_ok-parts

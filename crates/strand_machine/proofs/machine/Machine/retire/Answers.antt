@@ -1,114 +1,192 @@
-use Rattle.std.proofs.Common.{◌≤◌, ◌∙◌, length, refl, sym, ap, subst}
-use Rattle.std.specs.Prelude.{None}
+use Rattle.std.proofs.Common.{◌≡◌, ◌≤◌, ◌∙◌, length, sym, ap, subst}
+use Rattle.std.specs.Prelude.{IfSome, None, Some}
 use Rattle.strand_inputs.specs.Settings.{Settings}
-use Rattle.strand_rules.specs.Cycle.{core_after, made_turn}
-use Rattle.strand_rules.specs.Machine.{made_to}
+use Rattle.strand_exec.specs.Memory.{extents_of}
+use Rattle.strand_rules.specs.Cycle.{IsReached, core_after, made_turn}
+use Rattle.strand_rules.specs.Machine.{Runs, made_to}
+use Rattle.strand_rules.specs.Pipeline.{with_memory}
+use Rattle.strand_rules.proofs.WithMemory.{runs_without}
 use Rattle.strand_queue.specs.Queue.{Queue}
-use Rattle.strand_machine.specs.KeptMachine.{seen}
-use Rattle.strand_machine.proofs.Fronts.{Holds}
-use Rattle.strand_machine.proofs.Held.{stand_moved, rooms_moved}
-use Rattle.strand_machine.proofs.Retires.{asks, counts, event_last, is_next, item_is, made_room, none_next, retiring_inside, retiring_reached, rooms_quiet, rooms_retired, stand_quiet, stand_retired}
+use Rattle.strand_cache.specs.Seen.{Seen}
+use Rattle.strand_machine.specs.Cached.{CacheStands}
+use Rattle.strand_machine.specs.Changed.{CanQueue}
+use Rattle.strand_machine.specs.KeptMachine.{IsHeld, seen}
+use Rattle.strand_machine.specs.Machine.{RingMachine}
+use Rattle.strand_machine.specs.Stand.{PartsSeen, queue_at, tally_at}
+use Rattle.strand_machine.proofs.Fronts.{holds_inside}
+use Rattle.strand_machine.proofs.Held.{held_moved}
+use Rattle.strand_machine.proofs.NextEvent.{IsNext, made_of}
+use Rattle.strand_machine.proofs.Retires.{Enqueued, Retiring, asks, cache_core, cache_is, cache_placed, cache_stands, counts, event_last, held_retired, is_next, item_is, made_parts, made_room, none_next, retired_comes, retired_is, retiring_inside, retiring_reached, rooms_quiet, stand_quiet}
+use Rattle.strand_machine.proofs.machine.Machine.retire.Goals.{After-enqueue, After-keeps, After-newest_item-item, After-note_access, After-retire, In_default, In-Some}
 use Rattle.strand_machine.proofs.machine.Machine.retire.Goals as goal
+
+retiring : (c : After-keeps) → Retiring (seen c.self.inside) c.args.n c.args.plan c.args.event
+retiring c = retiring_inside (seen c.self.inside) c.args.self.now c.args.n c.args.effect c.args.plan c.args.event c.self.view_is
+    (holds_inside c.self.inside c.self.invariant c.keeps.ensures.kept c.keeps.ensures.buffers)
+    c.requires.core c.requires.runs c.requires.plan c.requires.placed c.requires.event c.requires.own c.requires.done c.requires.room
+
+runs : (c : After-keeps) → Runs c.self.inside.pipeline c.args.n c.args.effect
+runs c = runs_without c.self.inside.parts.cache.memory c.self.inside.pipeline c.args.n c.args.effect (subst (λ (r : RingMachine). Runs r.machine c.args.n c.args.effect) (sym c.self.view_is) c.requires.runs)
+
+pub access-loaded-requires-clause-core : goal.access-loaded-requires-clause-core
+access-loaded-requires-clause-core c = cache_core (seen c.self.inside) c.args.n c.args.plan c.args.event (retiring (goal.at.access-loaded-requires-clause-core c).After-keeps)
+
+pub access-loaded-requires-clause-placed : goal.access-loaded-requires-clause-placed
+access-loaded-requires-clause-placed c = cache_placed (seen c.self.inside) c.args.n c.args.plan c.args.event (retiring (goal.at.access-loaded-requires-clause-placed c).After-keeps)
+
+pub retire-requires-clause-runs : goal.retire-requires-clause-runs
+retire-requires-clause-runs c = runs (goal.at.retire-requires-clause-runs c).After-keeps
 
 pub retire-requires-clause-reached : goal.retire-requires-clause-reached
 retire-requires-clause-reached c =
+    let at = (goal.at.retire-requires-clause-reached c).After-keeps in
+    retired_comes c.self.inside c.args.n c.args.effect c.args.plan c.args.event (retiring at) (runs at) c.requires.plan c.access-loaded.new.self.cache c.access-loaded.ensures.cache c.access-loaded.result c.access-loaded.ensures.loaded
+
+-- the machine is that of the rules after it
+moved : (c : After-retire) → Retiring (seen c.self.inside) c.args.n c.args.plan c.args.event → Runs c.self.inside.pipeline c.args.n c.args.effect
+    → with_memory c.access-loaded.new.self.cache.memory c.retire.new.self ≡ made_to (seen c.self.inside).machine (core_after c.self.inside.pipeline.program (seen c.self.inside).machine.state c.args.n c.args.event)
+moved c step run = retired_is c.self.inside c.args.n c.args.effect c.args.plan c.args.event step run c.requires.plan c.access-loaded.new.self.cache c.access-loaded.ensures.cache c.access-loaded.result c.access-loaded.ensures.loaded c.retire.new.self c.retire.ensures
+
+-- the caches stand for the state after it
+cached : (c : After-retire) → Retiring (seen c.self.inside) c.args.n c.args.plan c.args.event
+    → CacheStands c.self.inside.pipeline.config (core_after c.self.inside.pipeline.program (seen c.self.inside).machine.state c.args.n c.args.event) c.access-loaded.new.self.cache
+cached c step = cache_stands (seen c.self.inside) c.args.n c.args.plan c.args.event step c.access-loaded.new.self.cache c.access-loaded.ensures.cache
+
+extents : (c : After-retire) → Retiring (seen c.self.inside) c.args.n c.args.plan c.args.event → extents_of c.access-loaded.new.self.cache.memory ≡ c.self.inside.pipeline.program.sizes
+extents c step = c.access-loaded.ensures.extents ∙ step.holds.extents
+
+pub returns-in_default-clause-machine : goal.returns-in_default-clause-machine
+returns-in_default-clause-machine c =
+    let at = goal.at.returns-in_default-clause-machine c in
+    moved at.After-retire (retiring at.After-keeps) (runs at.After-keeps) ∙ ap (λ (r : RingMachine). made_to r.machine (core_after r.machine.program r.machine.state c.args.n c.args.event)) c.self.view_is
+
+-- without an event the parts stay but for the caches
+quiet : (c : In_default) → Retiring (seen c.self.inside) c.args.n c.args.plan c.args.event
+    → with_memory c.access-loaded.new.self.cache.memory c.retire.new.self ≡ made_to (seen c.self.inside).machine (core_after c.self.inside.pipeline.program (seen c.self.inside).machine.state c.args.n c.args.event)
+    → CacheStands c.self.inside.pipeline.config (core_after c.self.inside.pipeline.program (seen c.self.inside).machine.state c.args.n c.args.event) c.access-loaded.new.self.cache
+    → extents_of c.access-loaded.new.self.cache.memory ≡ c.self.inside.pipeline.program.sizes
+    → IsHeld (record { pipeline = c.retire.new.self; parts = c.access-loaded.new.self })
+quiet c step to stands sizes =
     let r = seen c.self.inside in
     let n = c.args.n in
-    let holds : Holds r = record { reached = c.keeps.ensures.reached; kept = c.keeps.ensures.kept; buffers = c.keeps.ensures.buffers; stand = c.self.invariant.stand; rooms = c.self.invariant.rooms } in
-    let step = retiring_inside r c.args.self.now n c.args.effect c.args.plan c.args.event c.self.view_is holds c.requires.core c.requires.runs c.requires.plan c.requires.event c.requires.own c.requires.done c.requires.room in
-    retiring_reached r n c.args.plan c.args.event step
+    let cache = c.access-loaded.new.self.cache in
+    let none = c.in_default.is in
+    let next = none_next r n c.args.plan c.args.event step none in
+    held_moved r (core_after r.machine.program r.machine.state n None) c.retire.new.self c.access-loaded.new.self (record r.parts { cache = cache })
+    (to ∙ ap (λ o. made_to r.machine (core_after r.machine.program r.machine.state n o)) none) c.access-loaded.ensures.others
+    (stand_quiet r step.holds n next cache (subst (λ o. CacheStands r.machine.config (core_after r.machine.program r.machine.state n o) cache) none stands))
+    (rooms_quiet r step.holds n next)
+    (subst (λ o. IsReached r.machine.config r.machine.program (core_after r.machine.program r.machine.state n o)) none (retiring_reached r n c.args.plan c.args.event step)) sizes
 
 pub returns-in_default-clause-parts : goal.returns-in_default-clause-parts
 returns-in_default-clause-parts c =
-    let r = seen c.self.inside in
-    let n = c.args.n in
-    let holds : Holds r = record { reached = c.keeps.ensures.reached; kept = c.keeps.ensures.kept; buffers = c.keeps.ensures.buffers; stand = c.self.invariant.stand; rooms = c.self.invariant.rooms } in
-    let step = retiring_inside r c.args.self.now n c.args.effect c.args.plan c.args.event c.self.view_is holds c.requires.core c.requires.runs c.requires.plan c.requires.event c.requires.own c.requires.done c.requires.room in
-    let moved = c.retire.ensures ∙ ap (λ o. made_to r.machine (core_after r.machine.program r.machine.state n o)) c.in_default.is in
-    stand_moved r.machine c.retire.new.self (core_after r.machine.program r.machine.state n None) r.parts r.parts r.parts moved refl (stand_quiet r holds n (none_next r n c.args.plan c.args.event step c.in_default.is))
+    let at = goal.at.returns-in_default-clause-parts c in
+    let step = retiring at.After-keeps in
+    (quiet at.In_default step (moved at.After-retire step (runs at.After-keeps)) (cached at.After-retire step) (extents at.After-retire step)).stand
 
 pub invariant_of-self : goal.invariant_of-self
 invariant_of-self c =
-    let r = seen c.self.inside in
-    let n = c.args.n in
-    let holds : Holds r = record { reached = c.keeps.ensures.reached; kept = c.keeps.ensures.kept; buffers = c.keeps.ensures.buffers; stand = c.self.invariant.stand; rooms = c.self.invariant.rooms } in
-    let step = retiring_inside r c.args.self.now n c.args.effect c.args.plan c.args.event c.self.view_is holds c.requires.core c.requires.runs c.requires.plan c.requires.event c.requires.own c.requires.done c.requires.room in
-    let moved = c.retire.ensures ∙ ap (λ o. made_to r.machine (core_after r.machine.program r.machine.state n o)) c.in_default.is in
-    record {
-      stand = returns-in_default-clause-parts c;
-      rooms = rooms_moved r.machine c.retire.new.self (core_after r.machine.program r.machine.state n None) r.parts r.parts r.parts moved refl (rooms_quiet r holds n (none_next r n c.args.plan c.args.event step c.in_default.is));
-    }
+    let at = goal.at.invariant_of-self c in
+    let step = retiring at.After-keeps in
+    quiet at.In_default step (moved at.After-retire step (runs at.After-keeps)) (cached at.After-retire step) (extents at.After-retire step)
+
+-- its event comes next, and the machine moved on with it
+next : (c : In-Some) → Retiring (seen c.self.inside) c.args.n c.args.plan c.args.event → IsNext (seen c.self.inside) c.args.n c.in-Some.event
+next c step = is_next (seen c.self.inside) c.args.n c.args.plan c.args.event step c.in-Some.event c.in-Some.is
+
+moved_on : (c : In-Some) → with_memory c.access-loaded.new.self.cache.memory c.retire.new.self ≡ made_to (seen c.self.inside).machine (core_after c.self.inside.pipeline.program (seen c.self.inside).machine.state c.args.n c.args.event)
+    → with_memory c.access-loaded.new.self.cache.memory c.retire.new.self ≡ made_to (seen c.self.inside).machine (core_after c.self.inside.pipeline.program (seen c.self.inside).machine.state c.args.n (Some c.in-Some.event))
+moved_on c to = to ∙ ap (λ o. made_to (seen c.self.inside).machine (core_after c.self.inside.pipeline.program (seen c.self.inside).machine.state c.args.n o)) c.in-Some.is
 
 pub newest_item-item-requires : goal.newest_item-item-requires
 newest_item-item-requires c =
-    let r = seen c.self.inside in
-    let n = c.args.n in
-    let holds : Holds r = record { reached = c.keeps.ensures.reached; kept = c.keeps.ensures.kept; buffers = c.keeps.ensures.buffers; stand = c.self.invariant.stand; rooms = c.self.invariant.rooms } in
-    let step = retiring_inside r c.args.self.now n c.args.effect c.args.plan c.args.event c.self.view_is holds c.requires.core c.requires.runs c.requires.plan c.requires.event c.requires.own c.requires.done c.requires.room in
-    let e = c.in-Some.event in
-    let is = is_next r n c.args.plan c.args.event step e c.in-Some.is in
-    let moved = c.retire.ensures ∙ ap (λ o. made_to r.machine (core_after r.machine.program r.machine.state n o)) c.in-Some.is in
-    rw (c.trace.ensures.events) (event_last r n e is c.retire.new.self moved)
+    let at = goal.at.newest_item-item-requires c in
+    let step = retiring at.After-keeps in
+    rw (c.trace.ensures.events) (event_last (seen c.self.inside) c.args.n c.in-Some.event (next at.In-Some step) (with_memory c.access-loaded.new.self.cache.memory c.retire.new.self) (moved_on at.In-Some (moved at.After-retire step (runs at.After-keeps))))
+
+-- this is the item that it stands for
+made : (c : After-newest_item-item) → IsNext (seen c.self.inside) c.args.n c.in-Some.event
+    → with_memory c.access-loaded.new.self.cache.memory c.retire.new.self ≡ made_to (seen c.self.inside).machine (core_after c.self.inside.pipeline.program (seen c.self.inside).machine.state c.args.n (Some c.in-Some.event))
+    → c.newest_item-item.result ≡ made_of c.self.inside.pipeline.config.mode c.self.inside.pipeline.state.now.trace c.in-Some.event
+made c is to = item_is (seen c.self.inside) c.args.n c.in-Some.event is (with_memory c.access-loaded.new.self.cache.memory c.retire.new.self) to c.newest_item-item.result c.config.inside.mode c.trace.result.now.events c.newest_item-item.ensures
+    (ap (λ (g : Settings). g.mode) (c.config.view_is ∙ c.config-config.ensures)) c.trace.ensures.events
 
 pub enqueue-requires-clause-room : goal.enqueue-requires-clause-room
 enqueue-requires-clause-room c =
     let r = seen c.self.inside in
     let n = c.args.n in
-    let holds : Holds r = record { reached = c.keeps.ensures.reached; kept = c.keeps.ensures.kept; buffers = c.keeps.ensures.buffers; stand = c.self.invariant.stand; rooms = c.self.invariant.rooms } in
-    let step = retiring_inside r c.args.self.now n c.args.effect c.args.plan c.args.event c.self.view_is holds c.requires.core c.requires.runs c.requires.plan c.requires.event c.requires.own c.requires.done c.requires.room in
-    let e = c.in-Some.event in
-    let is = is_next r n c.args.plan c.args.event step e c.in-Some.is in
-    let moved = c.retire.ensures ∙ ap (λ o. made_to r.machine (core_after r.machine.program r.machine.state n o)) c.in-Some.is in
-    let made = item_is r n e is c.retire.new.self moved c.newest_item-item.result c.config.inside.mode c.trace.result.now.events c.newest_item-item.ensures (ap (λ (g : Settings). g.mode) (c.config.view_is ∙ c.config-config.ensures)) c.trace.ensures.events in
-    made_room r n e is (subst (λ (q : Queue). length q.items ≤ q.depth) c.queue.ensures c.is_full-full.ensures.within) step.room (sym (ap (made_turn r.machine.config r.machine.state n) c.in-Some.is) ∙ step.done) c.newest_item-item.result made
+    let at = goal.at.enqueue-requires-clause-room c in
+    let step = retiring at.After-keeps in
+    let is = next at.In-Some step in
+    subst (λ (p : PartsSeen). IfSome c.newest_item-item.result (λ i. CanQueue (queue_at p n) (tally_at p n))) (sym c.access-loaded.ensures.others)
+    (made_room r n c.in-Some.event is (subst (λ (q : Queue). length q.items ≤ q.depth) c.queue.ensures c.is_full-full.ensures.within) step.room
+    (sym (ap (made_turn r.machine.config r.machine.state n) c.in-Some.is) ∙ step.done) c.newest_item-item.result
+    (made at.After-newest_item-item is (moved_on at.In-Some (moved at.After-retire step (runs at.After-keeps)))))
+
+-- the parts with it
+enqueued : (c : After-enqueue) → IsNext (seen c.self.inside) c.args.n c.in-Some.event
+    → CacheStands c.self.inside.pipeline.config (core_after c.self.inside.pipeline.program (seen c.self.inside).machine.state c.args.n c.args.event) c.access-loaded.new.self.cache
+    → c.newest_item-item.result ≡ made_of c.self.inside.pipeline.config.mode c.self.inside.pipeline.state.now.trace c.in-Some.event
+    → Enqueued (seen c.self.inside) c.args.n c.in-Some.event c.access-loaded.new.self.cache c.enqueue.new.self
+enqueued c is stands made_is =
+    let r = seen c.self.inside in
+    let n = c.args.n in
+    let cache = c.access-loaded.new.self.cache in
+    record {
+      next = is;
+      cached = subst (λ o. CacheStands r.machine.config (core_after r.machine.program r.machine.state n o) cache) c.in-Some.is stands;
+      parts_are = made_parts r.parts c.access-loaded.new.self c.enqueue.new.self cache n c.newest_item-item.result _ c.access-loaded.ensures.others c.enqueue.ensures made_is;
+    }
 
 pub note_access-requires-clause-access : goal.note_access-requires-clause-access
 note_access-requires-clause-access c =
-    let r = seen c.self.inside in
-    let n = c.args.n in
-    let holds : Holds r = record { reached = c.keeps.ensures.reached; kept = c.keeps.ensures.kept; buffers = c.keeps.ensures.buffers; stand = c.self.invariant.stand; rooms = c.self.invariant.rooms } in
-    let step = retiring_inside r c.args.self.now n c.args.effect c.args.plan c.args.event c.self.view_is holds c.requires.core c.requires.runs c.requires.plan c.requires.event c.requires.own c.requires.done c.requires.room in
-    let e = c.in-Some.event in
-    let is = is_next r n c.args.plan c.args.event step e c.in-Some.is in
-    let moved = c.retire.ensures ∙ ap (λ o. made_to r.machine (core_after r.machine.program r.machine.state n o)) c.in-Some.is in
-    let made = item_is r n e is c.retire.new.self moved c.newest_item-item.result c.config.inside.mode c.trace.result.now.events c.newest_item-item.ensures (ap (λ (g : Settings). g.mode) (c.config.view_is ∙ c.config-config.ensures)) c.trace.ensures.events in
-    asks r n e is c.retire.new.self moved c.newest_item-item.result made c.enqueue.new.self c.enqueue.ensures
+    let at = goal.at.note_access-requires-clause-access c in
+    let step = retiring at.After-keeps in
+    let is = next at.In-Some step in
+    asks (seen c.self.inside) c.args.n c.in-Some.event c.access-loaded.new.self.cache c.enqueue.new.self
+    (enqueued at.After-enqueue is (cached at.After-retire step) (made at.After-newest_item-item is (moved_on at.In-Some (moved at.After-retire step (runs at.After-keeps)))))
 
 pub note_access-requires-clause-made : goal.note_access-requires-clause-made
 note_access-requires-clause-made c yes_ =
+    let at = goal.at.note_access-requires-clause-made c in
+    let step = retiring at.After-keeps in
+    let is = next at.In-Some step in
+    counts (seen c.self.inside) c.args.n c.in-Some.event c.access-loaded.new.self.cache c.enqueue.new.self
+    (enqueued at.After-enqueue is (cached at.After-retire step) (made at.After-newest_item-item is (moved_on at.In-Some (moved at.After-retire step (runs at.After-keeps)))))
+
+-- what the fields keep with it
+held : (c : After-note_access) → Retiring (seen c.self.inside) c.args.n c.args.plan c.args.event → Enqueued (seen c.self.inside) c.args.n c.in-Some.event c.access-loaded.new.self.cache c.enqueue.new.self
+    → with_memory c.access-loaded.new.self.cache.memory c.retire.new.self ≡ made_to (seen c.self.inside).machine (core_after c.self.inside.pipeline.program (seen c.self.inside).machine.state c.args.n (Some c.in-Some.event))
+    → extents_of c.access-loaded.new.self.cache.memory ≡ c.self.inside.pipeline.program.sizes
+    → IsHeld (record { pipeline = c.retire.new.self; parts = c.note_access.new.self })
+held c step queued to sizes =
     let r = seen c.self.inside in
     let n = c.args.n in
-    let holds : Holds r = record { reached = c.keeps.ensures.reached; kept = c.keeps.ensures.kept; buffers = c.keeps.ensures.buffers; stand = c.self.invariant.stand; rooms = c.self.invariant.rooms } in
-    let step = retiring_inside r c.args.self.now n c.args.effect c.args.plan c.args.event c.self.view_is holds c.requires.core c.requires.runs c.requires.plan c.requires.event c.requires.own c.requires.done c.requires.room in
-    let e = c.in-Some.event in
-    let is = is_next r n c.args.plan c.args.event step e c.in-Some.is in
-    let moved = c.retire.ensures ∙ ap (λ o. made_to r.machine (core_after r.machine.program r.machine.state n o)) c.in-Some.is in
-    let made = item_is r n e is c.retire.new.self moved c.newest_item-item.result c.config.inside.mode c.trace.result.now.events c.newest_item-item.ensures (ap (λ (g : Settings). g.mode) (c.config.view_is ∙ c.config-config.ensures)) c.trace.ensures.events in
-    counts r n e is c.retire.new.self moved c.newest_item-item.result made c.enqueue.new.self c.enqueue.ensures
+    held_retired r n c.in-Some.event c.access-loaded.new.self.cache c.enqueue.new.self queued c.note_access.new.self c.note_access.ensures.noted c.note_access.ensures.same c.note_access.ensures.others c.retire.new.self to
+    (subst (λ o. IsReached r.machine.config r.machine.program (core_after r.machine.program r.machine.state n o)) c.in-Some.is (retiring_reached r n c.args.plan c.args.event step)) sizes
+
+pub returns-clause-machine : goal.returns-clause-machine
+returns-clause-machine c =
+    let at = goal.at.returns-clause-machine c in
+    let step = retiring at.After-keeps in
+    let is = next at.In-Some step in
+    let to = moved at.After-retire step (runs at.After-keeps) in
+    let queued = enqueued at.After-enqueue is (cached at.After-retire step) (made at.After-newest_item-item is (moved_on at.In-Some to)) in
+    ap (λ (cache : Seen). with_memory cache.memory c.retire.new.self) (cache_is (seen c.self.inside) c.args.n c.in-Some.event c.access-loaded.new.self.cache c.enqueue.new.self queued c.note_access.new.self c.note_access.ensures.noted c.note_access.ensures.same c.note_access.ensures.others)
+    ∙ to ∙ ap (λ (r : RingMachine). made_to r.machine (core_after r.machine.program r.machine.state c.args.n c.args.event)) c.self.view_is
 
 pub returns-clause-parts : goal.returns-clause-parts
 returns-clause-parts c =
-    let r = seen c.self.inside in
-    let n = c.args.n in
-    let holds : Holds r = record { reached = c.keeps.ensures.reached; kept = c.keeps.ensures.kept; buffers = c.keeps.ensures.buffers; stand = c.self.invariant.stand; rooms = c.self.invariant.rooms } in
-    let step = retiring_inside r c.args.self.now n c.args.effect c.args.plan c.args.event c.self.view_is holds c.requires.core c.requires.runs c.requires.plan c.requires.event c.requires.own c.requires.done c.requires.room in
-    let e = c.in-Some.event in
-    let is = is_next r n c.args.plan c.args.event step e c.in-Some.is in
-    let moved = c.retire.ensures ∙ ap (λ o. made_to r.machine (core_after r.machine.program r.machine.state n o)) c.in-Some.is in
-    let made = item_is r n e is c.retire.new.self moved c.newest_item-item.result c.config.inside.mode c.trace.result.now.events c.newest_item-item.ensures (ap (λ (g : Settings). g.mode) (c.config.view_is ∙ c.config-config.ensures)) c.trace.ensures.events in
-    stand_retired r n e is c.retire.new.self moved c.newest_item-item.result made c.enqueue.new.self c.enqueue.ensures c.note_access.new.self c.note_access.ensures.noted c.note_access.ensures.same c.note_access.ensures.others
+    let at = goal.at.returns-clause-parts c in
+    let step = retiring at.After-keeps in
+    let is = next at.In-Some step in
+    let to = moved_on at.In-Some (moved at.After-retire step (runs at.After-keeps)) in
+    (held at.After-note_access step (enqueued at.After-enqueue is (cached at.After-retire step) (made at.After-newest_item-item is to)) to (extents at.After-retire step)).stand
 
 pub invariant_of-self-2 : goal.invariant_of-self-2
 invariant_of-self-2 c =
-    let r = seen c.self.inside in
-    let n = c.args.n in
-    let holds : Holds r = record { reached = c.keeps.ensures.reached; kept = c.keeps.ensures.kept; buffers = c.keeps.ensures.buffers; stand = c.self.invariant.stand; rooms = c.self.invariant.rooms } in
-    let step = retiring_inside r c.args.self.now n c.args.effect c.args.plan c.args.event c.self.view_is holds c.requires.core c.requires.runs c.requires.plan c.requires.event c.requires.own c.requires.done c.requires.room in
-    let e = c.in-Some.event in
-    let is = is_next r n c.args.plan c.args.event step e c.in-Some.is in
-    let moved = c.retire.ensures ∙ ap (λ o. made_to r.machine (core_after r.machine.program r.machine.state n o)) c.in-Some.is in
-    let made = item_is r n e is c.retire.new.self moved c.newest_item-item.result c.config.inside.mode c.trace.result.now.events c.newest_item-item.ensures (ap (λ (g : Settings). g.mode) (c.config.view_is ∙ c.config-config.ensures)) c.trace.ensures.events in
-    record {
-      stand = returns-clause-parts c;
-      rooms = rooms_retired r n e is c.retire.new.self moved c.newest_item-item.result made c.enqueue.new.self c.enqueue.ensures c.note_access.new.self c.note_access.ensures.noted c.note_access.ensures.same c.note_access.ensures.others;
-    }
+    let at = goal.at.invariant_of-self-2 c in
+    let step = retiring at.After-keeps in
+    let is = next at.In-Some step in
+    let to = moved_on at.In-Some (moved at.After-retire step (runs at.After-keeps)) in
+    held at.After-note_access step (enqueued at.After-enqueue is (cached at.After-retire step) (made at.After-newest_item-item is to)) to (extents at.After-retire step)

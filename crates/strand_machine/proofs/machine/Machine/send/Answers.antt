@@ -1,45 +1,69 @@
-use Rattle.std.proofs.Common.{◌<◌, sym, ap, subst, ◌∙◌, length, arith}
+use Rattle.std.proofs.Common.{◌≡◌, ◌<◌, sym, ap, subst, ◌∙◌, length, arith}
 use Rattle.std.specs.Prelude.{Some}
 use Rattle.std.proofs.lemmas.Bool.{ne_eqb}
 use Rattle.std.proofs.lemmas.Nat.{mod_below}
 use Rattle.strand_events.specs.Trace.{strand_number}
-use Rattle.strand_rules.specs.Cycle.{send_after}
+use Rattle.strand_rules.specs.Cycle.{IsReached, send_after}
+use Rattle.strand_rules.specs.Machine.{made_to}
+use Rattle.strand_rules.specs.Pipeline.{with_memory}
 use Rattle.strand_rules.proofs.Reached.{send_reached}
 use Rattle.strand_machine.specs.Changed.{with_sent}
+use Rattle.strand_machine.specs.KeptMachine.{IsHeld, seen}
 use Rattle.strand_machine.specs.Machine.{RingMachine, SlotIs}
-use Rattle.strand_machine.specs.Stand.{request_at}
+use Rattle.strand_machine.specs.Stand.{PartsSeen, request_at}
+use Rattle.strand_machine.proofs.Fronts.{Holds, holds_inside}
 use Rattle.strand_machine.proofs.Known.{waiting_taken}
-use Rattle.strand_machine.proofs.Held.{stand_moved, rooms_moved}
+use Rattle.strand_machine.proofs.Held.{held_moved}
 use Rattle.strand_machine.proofs.Standing.{stand_sent}
+use Rattle.strand_machine.proofs.machine.Machine.send.Goals.{After-keeps, After-send-2}
 use Rattle.strand_machine.proofs.machine.Machine.send.Goals as goal
 
+holds : (c : After-keeps) → Holds (seen c.self.inside)
+holds c = holds_inside c.self.inside c.self.invariant c.keeps.ensures.kept c.keeps.ensures.buffers
+
+slot : (c : After-keeps) → SlotIs (seen c.self.inside) c.args.n c.args.b c.args.j c.args.slot c.args.p
+slot c = subst (λ (r : RingMachine). SlotIs r c.args.n c.args.b c.args.j c.args.slot c.args.p) (sym c.self.view_is) c.requires.slot
+
+reached : (c : After-keeps) → IsReached c.self.inside.pipeline.config c.self.inside.pipeline.program (send_after (seen c.self.inside).machine.state (Some c.args.p))
+reached c =
+    let m = (seen c.self.inside).machine in
+    let room : length m.state.flight < m.config.flight = subst (λ (r : RingMachine). length r.machine.state.flight < r.machine.config.flight) (sym c.self.view_is) c.requires.flight in
+    send_reached m c.args.n c.args.b c.args.j c.args.p (holds c).reached (sym (slot c).at) (ne_eqb (length m.state.flight) m.config.flight (λ e. omega (arith, room, e)))
+
 pub send-requires-clause-waits : goal.send-requires-clause-waits
-send-requires-clause-waits c = (subst (λ (m : RingMachine). SlotIs m c.args.n c.args.b c.args.j c.args.slot c.args.p) (sym c.self.view_is) c.requires.slot).waits
+send-requires-clause-waits c = (slot (goal.at.send-requires-clause-waits c).After-keeps).waits
 
 pub send-requires-clause-reached : goal.send-requires-clause-reached
-send-requires-clause-reached c =
-    let m = c.self.inside.plain in
-    let is = subst (λ (m : RingMachine). SlotIs m c.args.n c.args.b c.args.j c.args.slot c.args.p) (sym c.self.view_is) c.requires.slot in
-    let room : length m.state.flight < m.config.flight = subst (λ (m : RingMachine). length m.machine.state.flight < m.machine.config.flight) (sym c.self.view_is) c.requires.flight in
-    send_reached m c.args.n c.args.b c.args.j c.args.p c.keeps.ensures.reached (sym is.at) (ne_eqb (length m.state.flight) m.config.flight (λ e. omega (arith, room, e)))
+send-requires-clause-reached c = (c.self.inside.parts.cache.memory, reached (goal.at.send-requires-clause-reached c).After-keeps)
 
 pub send-requires-2-clause-eligible : goal.send-requires-2-clause-eligible
-send-requires-2-clause-eligible c = (subst (λ (m : RingMachine). SlotIs m c.args.n c.args.b c.args.j c.args.slot c.args.p) (sym c.self.view_is) c.requires.slot).eligible
+send-requires-2-clause-eligible c = (slot (goal.at.send-requires-2-clause-eligible c).After-keeps).eligible
+
+-- what the fields keep
+held : (c : After-send-2) → Holds (seen c.self.inside) → SlotIs (seen c.self.inside) c.args.n c.args.b c.args.j c.args.slot c.args.p
+    → IsReached c.self.inside.pipeline.config c.self.inside.pipeline.program (send_after (seen c.self.inside).machine.state (Some c.args.p))
+    → IsHeld (record { pipeline = c.send.new.self; parts = c.send-2.new.self })
+held c all is comes =
+    let r = seen c.self.inside in
+    let m = r.machine in
+    let p = c.args.p in
+    let within = (waiting_taken m all.reached all.kept p is.waits).within in
+    let parts_are = c.send-2.ensures ∙ ap (with_sent r.parts) is.request in
+    let moved : with_memory c.send-2.new.self.cache.memory c.send.new.self ≡ made_to m (send_after m.state (Some p)) =
+    ap (λ (q : PartsSeen). with_memory q.cache.memory c.send.new.self) parts_are ∙ ap (with_memory r.parts.cache.memory) c.send.ensures in
+    held_moved r (send_after m.state (Some p)) c.send.new.self c.send-2.new.self (with_sent r.parts (request_at m.config m.state p)) moved parts_are
+    (stand_sent m.config m.state p is.persist m.program.sizes r.parts all.stand is.core (mod_below (strand_number m.config.mode m.state.now.trace p) m.config.buffers all.buffers)
+    (omega (arith, within, all.kept.buffered)) is.undone) all.rooms comes all.extents
+
+pub returns-clause-machine : goal.returns-clause-machine
+returns-clause-machine c =
+    let m = (seen c.self.inside).machine in
+    let moved : with_memory c.send-2.new.self.cache.memory c.send.new.self ≡ made_to m (send_after m.state (Some c.args.p)) =
+    ap (λ (q : PartsSeen). with_memory q.cache.memory c.send.new.self) c.send-2.ensures ∙ ap (with_memory c.self.inside.parts.cache.memory) c.send.ensures in
+    moved ∙ ap (λ (r : RingMachine). made_to r.machine (send_after r.machine.state (Some c.args.p))) c.self.view_is
 
 pub returns-clause-parts : goal.returns-clause-parts
-returns-clause-parts c =
-    let m = c.self.inside.plain in
-    let is = subst (λ (m : RingMachine). SlotIs m c.args.n c.args.b c.args.j c.args.slot c.args.p) (sym c.self.view_is) c.requires.slot in
-    let within = (waiting_taken m c.keeps.ensures.reached c.keeps.ensures.kept c.args.p is.waits).within in
-    stand_moved m c.send.new.self (send_after m.state (Some c.args.p)) c.self.inside.parts c.send-2.new.self (with_sent c.self.inside.parts (request_at m.config m.state c.args.p)) c.send.ensures
-    (c.send-2.ensures ∙ ap (with_sent c.self.inside.parts) is.request)
-    (stand_sent m.config m.state c.args.p is.persist m.program.sizes c.self.inside.parts c.self.invariant.stand is.core (mod_below (strand_number m.config.mode m.state.now.trace c.args.p) m.config.buffers c.keeps.ensures.buffers)
-    (omega (arith, within, c.keeps.ensures.kept.buffered)) is.undone)
+returns-clause-parts c = let at = goal.at.returns-clause-parts c in (held at.After-send-2 (holds at.After-keeps) (slot at.After-keeps) (reached at.After-keeps)).stand
 
 pub invariant_of-self : goal.invariant_of-self
-invariant_of-self c =
-    let m = c.self.inside.plain in
-    record {
-      stand = returns-clause-parts c;
-      rooms = rooms_moved m c.send.new.self (send_after m.state (Some c.args.p)) c.self.inside.parts c.send-2.new.self _ c.send.ensures c.send-2.ensures c.self.invariant.rooms;
-    }
+invariant_of-self c = let at = goal.at.invariant_of-self c in held at.After-send-2 (holds at.After-keeps) (slot at.After-keeps) (reached at.After-keeps)

@@ -1,39 +1,19 @@
-use Rattle.std.proofs.Common.{◌≡◌, length, map, arith, sym, ap, refl, ◌∙◌}
-use Rattle.std.specs.Prelude.{replicate}
-use Rattle.std.proofs.lemmas.List.{length-map, length-replicate}
+use Rattle.std.proofs.Common.{◌≡◌, length, map, refl, sym, ap, subst, ◌∙◌}
 use Rattle.strand_exec.specs.Core.{fresh}
-use Rattle.strand_events.specs.Order.{held}
-use Rattle.strand_events.specs.Trace.{persists_of}
-use Rattle.strand_rules.proofs.Keeping.{IsStart, kept_start}
-use Rattle.strand_rules.proofs.Reached.{machine_reached}
+use Rattle.strand_rules.specs.Cycle.{IsReached}
+use Rattle.strand_rules.specs.Machine.{Machine, program_of}
+use Rattle.strand_rules.specs.Pipeline.{state_with}
+use Rattle.strand_rules.proofs.Reached.{start_reached}
 use Rattle.strand_rules.proofs.plain_machine.PlainMachine.new.Goals as goal
 
 pub invariant_of-result : goal.invariant_of-result
 invariant_of-result c =
-    let items : length c.in_ok-zeros.field-0.items ≡ length c.in_ok-cores.cores.items = ap length c.in_ok-zeros.ensures ∙ length-replicate _ _ ∙ c.len.ensures ∙ c.in_ok-cores.cores.ok.0 in
-    let zeros = c.in_ok-zeros.ensures ∙ ap (λ n. replicate n 0) (c.len.ensures ∙ c.in_ok-cores.cores.ok.0) in
-    let start : IsStart _ = record {
-      cores = omega (arith, ap length c.in_ok-cores.ensures, length-map c.entries.result.now fresh, ap length c.entries.ensures.entries, c.entries.ensures.keeps.limits.cores_within.1);
-      few_volatile = omega (arith, ap length c.volatile.ensures.volatile, c.volatile.ensures.keeps.limits.volatile_within.1);
-      volatile = ap length c.in_ok-copy.ensures.0 ∙ ap length c.volatile-2.ensures.volatile ∙ sym (ap length c.volatile.ensures.volatile);
-      persistent = ap length c.in_ok-copy.ensures.1 ∙ ap length c.persistent-2.ensures.persistent ∙ sym (ap length c.persistent.ensures.persistent);
-      few_steps = omega arith;
-      made = refl;
-      trace = c.in_ok-new-2.ensures.empty;
-      retired = c.in_ok-with_capacity.ensures.items;
-      dispatched = items;
-      buffered = c.in_ok-with_capacity-2.ensures.items;
-      flight = c.in_ok-with_capacity-3.ensures.items;
-      durable = c.in_ok-with_capacity-4.ensures.items;
-    } in
+    let memory = c.in_ok-copy.field-0 in
+    let image = c.args.image.now in
+    let volatile : length memory.volatile ≡ length image.volatile = ap length (c.in_ok-copy.ensures.0 ∙ c.volatile.ensures.volatile) in
+    let persistent : length memory.persistent ≡ length image.persistent = ap length (c.in_ok-copy.ensures.1 ∙ c.persistent.ensures.persistent) in
     record {
-      kept = kept_start _ start;
-      reached = machine_reached _ start zeros;
-      persisted = c.in_ok-with_capacity-5.ensures.items ∙ sym (ap (λ t. map (held c.in_ok-with_capacity-4.field-0.items) (persists_of t)) c.in_ok-new-2.ensures.empty);
-      room = c.in_ok-new-2.ensures.room;
-      retired_room = c.in_ok-with_capacity.ensures.capacity;
-      buffered_room = c.in_ok-with_capacity-2.ensures.capacity;
-      durable_room = c.in_ok-with_capacity-4.ensures.capacity;
-      persisted_room = c.in_ok-with_capacity-5.ensures.capacity;
-      flight_room = omega (arith, c.flight_limit.ensures, c.in_ok-with_capacity-3.ensures.capacity);
+      extents = rw (volatile, persistent) refl ∙ sym (ap (λ (m : Machine). m.program.sizes) c.in_ok-new.ensures);
+      reached = subst (λ (m : Machine). IsReached m.config m.program (state_with memory m.state)) (sym c.in_ok-new.ensures)
+          (start_reached c.args.config.now (program_of image) (map fresh image.entries) memory);
     }

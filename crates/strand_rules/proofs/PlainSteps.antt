@@ -1,0 +1,67 @@
+-- What a step of the pipeline leaves of the plain machine, which has its memory beside it.
+use Rattle.std.proofs.Common.{◌≡◌, ℕ, ◌+◌, Bool, true, false, length, refl, sym, ap, subst, ◌∙◌}
+use Rattle.std.specs.Prelude.{Some, None, slice_get, ◌==◌, if◌then◌else◌, ◌&&◌}
+use Rattle.std.specs.declared.option.Option.{Option}
+use Rattle.std.proofs.lemmas.Bool.{true≢false}
+use Rattle.strand_inputs.specs.Settings.{Settings}
+use Rattle.strand_inputs.specs.declared.step.Step.{Step}
+use Rattle.strand_inputs.specs.declared.step.Step.TheVariants.{Dispatch, Send}
+use Rattle.strand_events.specs.Trace.{event_is, is_persist, is_new_strand, strand_number}
+use Rattle.strand_modules.specs.Bank.{BankSeen}
+use Rattle.strand_rules.specs.declared.plain_machine.PlainMachine.TheInside.{Inside}
+use Rattle.strand_rules.specs.declared.turn.Cause.{Cause}
+use Rattle.strand_rules.specs.declared.turn.Cause.TheVariants as causes
+use Rattle.strand_rules.specs.declared.turn.Turn.{Turn}
+use Rattle.strand_rules.specs.declared.turn.Turn.TheVariants.{Done, Bubble, Fault}
+use Rattle.strand_rules.specs.Cycle.{State, turn, item_turn, send_turn, ring_use, buffer_of, buffer_busy, front, eligible, IsReached}
+use Rattle.strand_rules.specs.KeptPlain.{IsHeld}
+use Rattle.strand_rules.specs.Machine.{Machine, Steps, StoresOk, stepped, stored_by}
+use Rattle.strand_rules.specs.Pipeline.{state_with, with_memory}
+use Rattle.strand_rules.proofs.Reached.{reached_after}
+use Rattle.strand_rules.proofs.WithMemory.{MovesNoCore, stepped_with}
+
+abbrev is_fault : Turn → Bool
+is_fault (Fault m) = true
+is_fault Done = false
+is_fault (Bubble cause) = false
+
+no_fault : (b : Bool) (cause : Cause) (other : Turn) → is_fault other ≡ false → is_fault (if b then Bubble cause else other) ≡ false
+no_fault true cause other safe = refl
+no_fault false cause other safe = safe
+
+item_safe : (g : Settings) (s : State) (n : ℕ) (o : Option ℕ) → is_fault (item_turn g s n o) ≡ false
+item_safe g s n None = refl
+item_safe g s n (Some k) =
+    let busy : Bool = event_is is_new_strand s.now.trace k && buffer_busy g s n (buffer_of g (strand_number g.mode s.now.trace k + 1)) in
+    no_fault (event_is is_persist s.now.trace k && (ring_use g s n k == g.ring)) causes.NoRoom (if busy then Bubble causes.NotEmpty else Done) (no_fault busy causes.NotEmpty Done refl)
+
+send_safe : (g : Settings) (s : State) (o : Option ℕ) → is_fault (send_turn g s o) ≡ false
+send_safe g s None = refl
+send_safe g s (Some p) = no_fault (length s.flight == g.flight) causes.FlightFull Done refl
+
+-- a step that stores nothing
+turned_steps : (old new : Machine) (bank : BankSeen) (step : Step) (t : Turn) → stored_by old.state step ≡ None → is_fault (turn old.config old.program old.state step) ≡ false
+    → t ≡ turn old.config old.program old.state step → new ≡ stepped old step → Steps old new bank bank step t
+turned_steps old new bank step Done nothing safe is same = (sym is, same, subst (λ o. StoresOk o bank bank) (sym nothing) refl)
+turned_steps old new bank step (Bubble cause) nothing safe is same = (sym is, same, refl)
+turned_steps old new bank step (Fault m) nothing safe is same = absurd (true≢false (ap is_fault is ∙ safe))
+
+pub dispatch_steps : (old new : Machine) (bank : BankSeen) (n : ℕ) (t : Turn) → t ≡ turn old.config old.program old.state (Dispatch n) → new ≡ stepped old (Dispatch n) → Steps old new bank bank (Dispatch n) t
+dispatch_steps old new bank n t is same = turned_steps old new bank (Dispatch n) t refl (item_safe old.config old.state n (front old.config old.state n)) is same
+
+pub send_steps : (old new : Machine) (bank : BankSeen) (n b j : ℕ) (t : Turn) → t ≡ turn old.config old.program old.state (Send n b j) → new ≡ stepped old (Send n b j) → Steps old new bank bank (Send n b j) t
+send_steps old new bank n b j t is same = turned_steps old new bank (Send n b j) t refl (send_safe old.config old.state (slice_get (eligible old.config old.state n b) j)) is same
+
+-- the memory stays, and a run reaches the state after the step
+module _ (m : Inside) (new : Machine) (step : Step) (moves : MovesNoCore step) (held : IsHeld m) where
+  pub stepped_held : new ≡ stepped m.pipeline step → IsHeld (record m { pipeline = new })
+  stepped_held same = record {
+    extents = held.extents ∙ sym (ap (λ (m : Machine). m.program.sizes) same);
+    reached = subst (λ (m : Machine). IsReached m.config m.program m.state) (sym (ap (with_memory m.memory) same ∙ stepped_with m.memory m.pipeline step moves))
+        (reached_after m.pipeline.config m.pipeline.program (state_with m.memory m.pipeline.state) step held.reached);
+  }
+
+  pub steps_held : (bank bank' : BankSeen) (t : Turn) → Steps m.pipeline new bank bank' step t → IsHeld (record m { pipeline = new })
+  steps_held bank bank' (Fault k) (turned, same, stores) = subst (λ (p : Machine). IsHeld (record m { pipeline = p })) (sym same) held
+  steps_held bank bank' (Bubble cause) (turned, same, told) = stepped_held same
+  steps_held bank bank' Done (turned, same, stores) = stepped_held same
