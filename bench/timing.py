@@ -59,9 +59,9 @@ def image(entries, code, volatile, persistent):
     return formats.write_image(formats.Image(entries, code, volatile, persistent))
 
 
-def machine(mode):
+def machine(mode, conflict="stall"):
     """The largest queues, rings and flight, with two buffers a core."""
-    return f"mode {mode}\nqueue 64\nbuffers 2\nring 64\nflight 64\nsets 4\nways 2\n".encode()
+    return f"mode {mode}\nqueue 64\nbuffers 2\nring 64\nflight 64\nsets 4\nways 2\nconflict {conflict}\n".encode()
 
 
 def build():

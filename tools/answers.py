@@ -1,8 +1,8 @@
 """What the program `strand` has to answer to words and files, by docs/program.md and docs/FORMATS.md.
 
-Where a file is refused, and for `asm`, `list`, `gen-image` and `gen-schedule`, that is the whole text. Of a report it is all that the
-cores did and saw, and their caches, by the steps that it tells as bubbles; the bubbles, what the modules hold and the persists are
-compared with the form of their lines alone, and so are a trace and a verdict. It is outside of what is proved.
+Where a file is refused, and for `asm`, `list`, `gen-image` and `gen-schedule`, that is the whole text. Of a report it is all lines but
+`path`: what the cores did and saw, the bubbles, what the modules hold, the durable persists, and the caches. That line is compared with
+its form alone, and so are a trace and a verdict. It is outside of what is proved.
 """
 import itertools
 import re
@@ -10,6 +10,7 @@ import re
 import assembler
 import formats
 import generator
+import turns
 import visible
 from formats import Refused
 
@@ -67,6 +68,56 @@ class Formed:
         return ""
 
 
+class Run:
+    """A run's steps made one by one: what the cores see, and where the persists are."""
+
+    def __init__(self, machine, image):
+        self.seen = visible.Visible(image, machine[b"sets"], machine[b"ways"])
+        settings = {key.decode(): value.decode() if isinstance(value, bytes) else value for key, value in machine.items()}
+        self.turns = turns.Machine(len(image.entries), settings)
+        self.words = list(image.persistent)  # as the modules hold them
+        self.values, self.bubbles = {}, []
+
+    def retire(self, number):
+        """A core's step, and the cause where it is a bubble."""
+        if self.seen.cores[number].life != "running":
+            return "ended"
+        found = self.seen.next_event(number)
+        if found:
+            kind, address = found
+            word = None if address is None else address // 8 * 8
+            is_persist = kind == "store" and address >= assembler.BASES["persist"]
+            event = turns.Event(kind, number, word, len(self.turns.persists) if is_persist else None)
+            cause = self.turns.retire(event)
+            if cause:
+                return cause
+        self.seen.retire(number)
+        if found and is_persist:
+            self.values[event.persist] = self.seen.memory["persist"][self.place_of(event)]
+        return None
+
+    @staticmethod
+    def place_of(event):
+        return (event.word - assembler.BASES["persist"]) // 8
+
+    def step(self, number, letter, numbers):
+        if letter == "c":
+            cause = self.retire(*numbers)
+        else:
+            written = self.turns.flight[numbers[0]:numbers[0] + 1] if letter == "w" else []
+            cause = self.turns.move(number, letter, *numbers)
+            if written and not cause:
+                self.words[self.place_of(written[0])] = self.values[written[0].persist]
+        if cause:
+            self.bubbles.append(f"bubble {number} {cause}")
+
+    def persist_lines(self):
+        base = assembler.BASES["persist"]
+        yield from (f"pm {base + 8 * place:016x} {value:016x}" for place, value in enumerate(self.words) if value)
+        durable = [event.persist for event in self.turns.persists if turns.is_durable(event)]
+        yield " ".join([f"durable {len(durable)}:", *map(str, durable)])
+
+
 class Report(Formed):
     """A report of so many steps of what was found in the files."""
 
@@ -74,22 +125,16 @@ class Report(Formed):
         super().__init__({0: REPORT})
         self.found, self.stop = found, stop
 
-    def retired(self, bubbles):
-        """The cores that retired an instruction, in turn."""
+    def due(self, text):
+        """The report that is due where the longest chain is the one that it tells."""
+        run = Run(self.found["machine"], self.found["image"])
         steps = itertools.chain.from_iterable(itertools.repeat(step[:2], step[2]) for step in self.found["schedule"])
         for number, (letter, numbers) in enumerate(itertools.islice(steps, self.stop), 1):
-            if letter == b"c" and number not in bubbles:
-                yield numbers[0]
-
-    def due(self, text):
-        """The report that is due where the bubbles, the modules' words and the persists are those that it tells."""
-        machine, lines = self.found["machine"], text.decode().splitlines()
-        seen = visible.Visible(self.found["image"], machine[b"sets"], machine[b"ways"])
-        bubbles = [line for line in lines if line.startswith("bubble ")]
-        for core in self.retired({int(line.split()[1]) for line in bubbles}):
-            seen.retire(core)
-        told = [line for line in lines if line.startswith(("pm ", "durable ", "path "))]
-        due = [f"stop {self.stop}", *seen.core_lines(), *seen.out_lines(), *bubbles, *seen.word_lines(), *told, *seen.cache_lines()]
+            run.step(number, letter.decode(), numbers)
+        told = [line for line in text.decode().splitlines() if line.startswith("path ")]
+        seen = run.seen
+        due = [f"stop {self.stop}", *seen.core_lines(), *seen.out_lines(), *run.bubbles, *seen.word_lines(), *run.persist_lines(),
+               *told, *seen.cache_lines()]
         return "".join(line + "\n" for line in due).encode()
 
     def fault(self, called):

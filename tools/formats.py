@@ -13,9 +13,9 @@ BYTES = {"machine": 4_096, "image": 4_194_304, "schedule": 4_194_304, "text": 4_
 FILES = {"asm": ("text",), "list": ("image",), "run": ("machine", "image", "schedule"), "trace": ("machine", "image", "schedule"),
          "judge": ("machine", "image", "schedule", "crash")}
 GENERATED = ("gen", "gen-image", "gen-schedule")  # these take a seed and a size
-MODES = (b"strict", b"epoch", b"strand")
+CHOICES = {b"mode": (b"strict", b"epoch", b"strand"), b"conflict": (b"stall", b"tag")}
 SIZES = {b"queue": 64, b"buffers": 8, b"ring": 64, b"flight": 64, b"sets": 64, b"ways": 8}
-KEYS = (b"mode", *SIZES)
+KEYS = (b"mode", *SIZES)  # those that each machine file gives
 QUANTITIES = (("cores", 1, 4), ("code", 1, 65_536), ("volatile", 0, 131_072), ("persistent", 1, 131_072))
 STEP_WORDS = {b"c": 1, b"d": 1, b"s": 3, b"w": 1}
 PLACES = 64  # of a buffer or in flight: J is below this
@@ -60,8 +60,8 @@ def read_machine(data):
     values, first = {}, {}
     for at, words in lines_of(data):
         key, value = words if len(words) == 2 else (None, None)
-        if key == b"mode":
-            if value not in MODES:
+        if key in CHOICES:
+            if value not in CHOICES[key]:
                 raise Refused("input", "badline", at)
         elif key not in SIZES or number_of(value) is None:
             raise Refused("input", "badline", at)
@@ -75,7 +75,7 @@ def read_machine(data):
     for key in KEYS:
         if key not in values:
             raise Refused("input", "missing", key.decode())
-    return values
+    return {b"conflict": b"stall", **values}
 
 
 def step_of(words):

@@ -186,7 +186,8 @@ def drawn(run):
 def heading(run):
     durable = sum(len(event.moves) == 3 for event in run.persists)
     chain = " ".join(map(str, run.chain[:16])) + (" .." if len(run.chain) > 16 else "")
-    return (f"{run.settings['mode']}: {len(run.steps)} steps, {len(run.bubbles)} of them bubbles; "
+    rule = ", conflict tag" if run.settings["conflict"] == "tag" else ""
+    return (f"{run.settings['mode']}{rule}: {len(run.steps)} steps, {len(run.bubbles)} of them bubbles; "
             f"{len(run.persists)} persists, {durable} durable; longest chain {len(run.chain)}: {chain}")
 
 

@@ -36,8 +36,9 @@ def words_of(name):
 
 
 def settings(name):
-    """A machine file's mode and sizes."""
-    return {key: value if key == "mode" else int(value) for key, value in words_of(name)}
+    """A machine file's mode, sizes and conflict."""
+    return {"conflict": "stall",
+            **{key: value if key in ("mode", "conflict") else int(value) for key, value in words_of(name)}}
 
 
 def steps_of(name):

@@ -11,6 +11,7 @@ import assembler
 WORD, HALF = 2**64, 2**32
 LINE = 64  # bytes
 SIZES = {"b": 1, "h": 2, "w": 4, "d": 8}
+EVENTS = {"persistbarrier": "barrier", "newstrand": "newstrand", "joinstrand": "join"}  # of those that are no accesses or outputs
 
 
 def signed(value):
@@ -100,6 +101,19 @@ class Visible:
         if found is None:
             raise Trapped("illegal")
         return found
+
+    def next_event(self, number):
+        """The kind of the event that a core's next instruction makes, and the address of an access; or None."""
+        core = self.cores[number]
+        try:
+            name, *operands = self.fetched(core.pc)
+            if name in assembler.LOADS or name in assembler.STORES:
+                address = (core.registers[operands[2]] + operands[1]) % WORD
+                self.region_of(address, SIZES[name[1]])
+                return "store" if name in assembler.STORES else "load", address
+        except Trapped:
+            return None
+        return (EVENTS[name], None) if name in EVENTS else None
 
     def execute(self, number, core, name, *operands):
         """Does it, and gives the next program counter."""

@@ -5,3 +5,4 @@ pub mod Linked
 pub mod Lowest
 pub mod Rings
 pub mod Trimmed
+pub mod WaitMet

@@ -4,7 +4,7 @@ use Rattle.std.specs.Prelude.{nat_lt, not, ◌==◌}
 use Rattle.std.proofs.lemmas.Bool.{cases_Bool, cases_eq, and_parts, and_from, ltb-true, lt-ltb, eq-eqb, ne_eqb, both_ways}
 use Rattle.strand_base.proofs.Counting.{any_true, any_from}
 use Rattle.strand_buffer.specs.declared.entry.Entry.{Entry}
-use Rattle.strand_buffer.specs.Entries.{is_open, is_buffered, entry_is, epoch_at, epoch_waits, word_waits, is_eligible}
+use Rattle.strand_buffer.specs.Entries.{is_open, is_buffered, is_met, entry_is, epoch_at, epoch_waits, word_waits, is_eligible}
 use Rattle.strand_buffer.specs.Ring.{IsRing}
 
 -- an entry waits for a lower epoch exactly where its epoch isn't the oldest entry's
@@ -26,7 +26,7 @@ waits_lowest entries i ring lt = elim (cases_Bool (epoch_waits entries i)) [
   ])
 ]
 
--- so a pass looks at the stage, the epoch and the earlier words alone
-pub eligible_lowest : (entries : List Entry) (i : ℕ) → IsRing entries → i < length entries
-    → is_eligible entries i ≡ (entry_is is_buffered entries i && (epoch_at entries i == epoch_at entries 0) && not (word_waits entries i))
-eligible_lowest entries i ring lt = ap (λ b. entry_is is_buffered entries i && b && not (word_waits entries i)) (waits_lowest entries i ring lt)
+-- so a pass looks at the stage, the epoch, the earlier words and the wait alone
+pub eligible_lowest : (durable : List ℕ) (entries : List Entry) (i : ℕ) → IsRing entries → i < length entries
+    → is_eligible durable entries i ≡ (entry_is is_buffered entries i && (epoch_at entries i == epoch_at entries 0) && not (word_waits entries i) && entry_is (is_met durable) entries i)
+eligible_lowest durable entries i ring lt = ap (λ b. entry_is is_buffered entries i && b && not (word_waits entries i) && entry_is (is_met durable) entries i) (waits_lowest entries i ring lt)

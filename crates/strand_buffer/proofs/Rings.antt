@@ -82,11 +82,11 @@ pub with_lists : (bs : Buffers) (ls ls' : List (List Entry)) → ls ≡ ls' → 
 with_lists bs ls ls' e = ap (λ (x : List (List Entry)). record bs { lists = x }) e
 
 -- a persist accepted by one ring is accepted by the buffers
-pub accepted_as : (bs : Buffers) (rings : List RingSeen) (b : ℕ) (old new : RingSeen) (number word value epoch : ℕ) → bs.lists ≡ map entries_of rings → b ≡ current bs → b < length rings → old ≡ slice_index_or rings b old
-    → new ≡ record old { entries = old.entries ++ record { number = number; word = word; value = value; epoch = epoch; stage = Buffered } ∷ [] }
-    → record bs { lists = map entries_of (slice_set rings b new); number = Some number; epoch = Some epoch } ≡ accepted bs number word value epoch
-accepted_as bs rings b old new number word value epoch lists at lt was is =
-    let entry : Entry = record { number = number; word = word; value = value; epoch = epoch; stage = Buffered } in
+pub accepted_as : (bs : Buffers) (rings : List RingSeen) (b : ℕ) (old new : RingSeen) (number word value epoch : ℕ) (wait : List ℕ) → bs.lists ≡ map entries_of rings → b ≡ current bs → b < length rings → old ≡ slice_index_or rings b old
+    → new ≡ record old { entries = old.entries ++ record { number = number; word = word; value = value; epoch = epoch; wait = wait; stage = Buffered } ∷ [] }
+    → record bs { lists = map entries_of (slice_set rings b new); number = Some number; epoch = Some epoch } ≡ accepted bs number word value epoch wait
+accepted_as bs rings b old new number word value epoch wait lists at lt was is =
+    let entry : Entry = record { number = number; word = word; value = value; epoch = epoch; wait = wait; stage = Buffered } in
     let same : map entries_of (slice_set rings b new) ≡ slice_set bs.lists (current bs) (slice_index_or bs.lists (current bs) [] ++ entry ∷ []) =
     changed_list rings b old new (old.entries ++ entry ∷ []) lt was is
     ∙ ap (λ xs. slice_set (map entries_of rings) b (xs ++ entry ∷ [])) (old_list rings b old new (old.entries ++ entry ∷ []) lt was is)

@@ -48,9 +48,9 @@ abbrev pub with_list : Buffers → ℕ → List Entry → Buffers
 with_list bs b entries = record bs { lists = slice_set bs.lists b entries }
 
 -- a persist comes to the end of the current strand's buffer
-abbrev pub accepted : Buffers → ℕ → ℕ → ℕ → ℕ → Buffers
-accepted bs number word value epoch =
-    record (with_list bs (current bs) (list_in bs (current bs) ++ record { number = number; word = word; value = value; epoch = epoch; stage = Buffered } ∷ [])) { number = Some number; epoch = Some epoch }
+abbrev pub accepted : Buffers → ℕ → ℕ → ℕ → ℕ → List ℕ → Buffers
+accepted bs number word value epoch wait =
+    record (with_list bs (current bs) (list_in bs (current bs) ++ record { number = number; word = word; value = value; epoch = epoch; wait = wait; stage = Buffered } ∷ [])) { number = Some number; epoch = Some epoch }
 
 -- the next strand begins
 abbrev pub begun : Buffers → Buffers
@@ -72,16 +72,16 @@ released bs b number = with_list bs b (trimmed (map (with_stage Released number)
 abbrev pub slot_at : List Entry → ℕ → Slot
 slot_at entries i = record { place = i; number = number_at entries i; word = word_at entries i; value = value_at entries i }
 
--- the eligible entry of a list, or of buffer b, that has j of them before it
-abbrev pub found_slot : List Entry → ℕ → Option Slot
-found_slot entries j = option_map (slot_at entries) (slice_get (eligible_places entries) j)
+-- the eligible entry of a list, or of buffer b, that has j of them before it, where of each core so many first persists are durable
+abbrev pub found_slot : List Entry → ℕ → List ℕ → Option Slot
+found_slot entries j durable = option_map (slot_at entries) (slice_get (eligible_places durable entries) j)
 
-abbrev pub eligible_slot : Buffers → ℕ → ℕ → Option Slot
-eligible_slot bs b j = found_slot (list_in bs b) j
+abbrev pub eligible_slot : Buffers → ℕ → ℕ → List ℕ → Option Slot
+eligible_slot bs b j durable = found_slot (list_in bs b) j durable
 
--- a persist of this number in buffer b is eligible
-abbrev pub IsEligible : Buffers → ℕ → ℕ → Type 0
-IsEligible bs b number = (i : ℕ) × (is_eligible (list_in bs b) i ≡ true) × (number_at (list_in bs b) i ≡ number)
+-- a persist of this number in buffer b is eligible with these counts
+abbrev pub IsEligible : Buffers → ℕ → ℕ → List ℕ → Type 0
+IsEligible bs b number durable = (i : ℕ) × (is_eligible durable (list_in bs b) i ≡ true) × (number_at (list_in bs b) i ≡ number)
 
 -- a persist of this number in buffer b was sent, and isn't durable
 abbrev pub IsSent : Buffers → ℕ → ℕ → Type 0

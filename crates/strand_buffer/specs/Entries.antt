@@ -1,5 +1,5 @@
 -- The list of a buffer, the oldest entry first, and which of its entries may be sent.
-use Rattle.std.specs.Prelude.{ℕ, Bool, true, false, ◌&&◌, not, ◌==◌, nat_lt, List, [], ◌∷◌, length, slice_get, Some, None, if◌then◌else◌}
+use Rattle.std.specs.Prelude.{ℕ, Bool, true, false, ◌&&◌, not, ◌==◌, nat_lt, List, [], ◌∷◌, length, slice_get, slice_index, Some, None, if◌then◌else◌}
 use Rattle.std.specs.declared.option.Option.{Option}
 use Rattle.strand_base.specs.Counting.{any_below, list_below}
 use Rattle.strand_buffer.specs.declared.entry.Entry.{Entry}
@@ -83,13 +83,17 @@ waits_with entries word h = entry_is is_buffered entries h && (word_at entries h
 abbrev pub word_waits : List Entry → ℕ → Bool
 word_waits entries i = any_below i (waits_with entries (word_at entries i))
 
--- entry i waits, all entries of lower epochs are durable, and no earlier one that waits has its word
-abbrev pub is_eligible : List Entry → ℕ → Bool
-is_eligible entries i = entry_is is_buffered entries i && not (epoch_waits entries i) && not (word_waits entries i)
+-- the entry's wait is met where of each core so many first persists are durable: none of its eight numbers is greater
+abbrev pub is_met : List ℕ → Entry → Bool
+is_met durable e = not (any_below 8 (λ c. nat_lt (slice_index durable c) (slice_index e.wait c)))
+
+-- entry i waits to be sent, all entries of lower epochs are durable, no earlier one that waits to be sent has its word, and its wait is met
+abbrev pub is_eligible : List ℕ → List Entry → ℕ → Bool
+is_eligible durable entries i = entry_is is_buffered entries i && not (epoch_waits entries i) && not (word_waits entries i) && entry_is (is_met durable) entries i
 
 -- the places of the eligible entries, ascending
-abbrev pub eligible_places : List Entry → List ℕ
-eligible_places entries = list_below (length entries) (is_eligible entries)
+abbrev pub eligible_places : List ℕ → List Entry → List ℕ
+eligible_places durable entries = list_below (length entries) (is_eligible durable entries)
 
 -- a list from the first element on that isn't done
 abbrev pub from_open : {X : Type 0} → (X → Bool) → List X → List X

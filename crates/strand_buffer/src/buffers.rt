@@ -65,16 +65,18 @@ impl StrandBuffers {
     }
 
     /// A persist comes to the end of the current strand's buffer, where it waits to be sent. Its number
-    /// is greater than all accepted before, and its epoch isn't lower than any of its strand.
-    pub fn accept(&mut self, number: u32, word: u64, value: u64, epoch: u32)
+    /// is greater than all accepted before, and its epoch isn't lower than any of its strand. Its wait
+    /// says for each core how many of that core's first persists must be durable before this one may be
+    /// sent.
+    pub fn accept(&mut self, number: u32, word: u64, value: u64, epoch: u32, wait: [u32; 8])
         requires room { has_room self.old ≡ true }
         requires number { MatchOption self.old.number (Unit {0}) (λ n. n < number) }
         requires epoch { MatchOption self.old.epoch (Unit {0}) (λ e. e ≤ epoch) }
-        ensures { self.new ≡ accepted self.old number word value epoch }
+        ensures { self.new ≡ accepted self.old number word value epoch wait }
     {
         let b = self.strand as usize % self.rings.len();
         let ring = &mut self.rings[b];
-        ring.accept(number, word, value, epoch);
+        ring.accept(number, word, value, epoch, wait);
         self.number = Some(number);
         self.epoch = Some(epoch);
     }
@@ -98,20 +100,23 @@ impl StrandBuffers {
         self.epoch = None;
     }
 
-    /// The eligible persist of buffer b that has so many of them before it; none exactly where there are
-    /// at most j. It looks at each entry of the buffer once.
-    pub fn eligible(&self, b: u32, j: u32) -> Option<Slot>
+    /// The eligible persist of buffer b that has j of them before it; none exactly where there are at
+    /// most j. `durable` says for each core how many of its first persists are all durable; a persist is
+    /// eligible only where its wait asks for no more of any core. It looks at each entry of the buffer
+    /// once, and compares the eight numbers of its wait.
+    pub fn eligible(&self, b: u32, j: u32, durable: &[u32; 8]) -> Option<Slot>
         requires { b < length self.now.lists }
-        ensures slot { result ≡ eligible_slot self.now b j }
-        ensures eligible { IfSome result (λ s. IsEligible self.now b s.number) }
+        ensures slot { result ≡ eligible_slot self.now b j durable.now }
+        ensures eligible { IfSome result (λ s. IsEligible self.now b s.number durable.now) }
     {
         let ring = &self.rings[b as usize];
-        ring.eligible(j)
+        ring.eligible(j, durable)
     }
 
-    /// The eligible persist of this number in buffer b is sent.
-    pub fn sent(&mut self, b: u32, number: u32)
-        requires { IsEligible self.old b number }
+    /// The persist of this number in buffer b, which is eligible with the counts `durable` (as in
+    /// `eligible`), is sent.
+    pub fn sent(&mut self, b: u32, number: u32, durable: &[u32; 8])
+        requires { IsEligible self.old b number durable.now }
         ensures buffers { self.new ≡ sent self.old b number }
         ensures sent { IsSent self.new b number }
     {

@@ -20,6 +20,9 @@ pub struct Entry {
     pub value: u64,
     /// Its epoch, a number within its strand.
     pub epoch: u32,
+    /// Its wait: for each core how many of that core's first persists must be durable before this one
+    /// may be sent. A number of 0 asks nothing of its core.
+    pub wait: [u32; 8],
     /// How far it has come.
     pub stage: Stage,
 }

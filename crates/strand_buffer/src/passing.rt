@@ -1,6 +1,6 @@
 // A pass over the entries of a buffer, the oldest first.
 ghost use Rattle.std.specs.Prelude.{◌≡◌, ◌<◌, ◌≤◌, ◌-◌, ◌==◌, false, nat_le, length, slice_get, slice_index_or, IfSome, if◌then◌else◌};
-ghost use Rattle.strand_buffer.specs.Entries.{epoch_at, is_buffered, entry_is, word_waits, is_eligible, eligible_places};
+ghost use Rattle.strand_buffer.specs.Entries.{epoch_at, is_buffered, is_met, entry_is, word_waits, is_eligible, eligible_places};
 ghost use Rattle.strand_buffer.specs.Links.{AreLinked};
 ghost use Rattle.strand_buffer.specs.Ring.{IsRing};
 
@@ -37,31 +37,50 @@ fn waits_before(waits: &[bool; 64], i: usize, distance: u32) -> bool
     distance <= i && waits[i - distance]
 }
 
+// Whether of each core as many first persists are durable as the wait of entry i asks for.
+fn is_met(entries: &[Entry], i: usize, durable: &[u32; 8]) -> bool
+    requires { i < length entries.now }
+    ensures { result ≡ entry_is (is_met durable.now) entries.now i }
+{
+    let mut over = false;
+    for c in 0..8 {
+        if durable[c] < entries[i].wait[c] {
+            over = true;
+        }
+    }
+    !over
+}
+
 // Whether entry i may be sent, where it is known whether an earlier one of its word waits.
 #[tactic(auto, using(crate::proofs::Lowest::eligible_lowest))]
-fn is_eligible(entries: &[Entry], i: usize, blocked: bool) -> bool
+fn is_eligible(entries: &[Entry], i: usize, blocked: bool, durable: &[u32; 8]) -> bool
     requires ring { IsRing entries.now }
     requires within { i < length entries.now }
     requires blocked { blocked ≡ word_waits entries.now i }
-    ensures { result ≡ is_eligible entries.now i }
+    ensures { result ≡ is_eligible durable.now entries.now i }
 {
-    is_buffered(entries, i) && is_lowest(entries, i) && !blocked
+    is_buffered(entries, i) && is_lowest(entries, i) && !blocked && is_met(entries, i, durable)
 }
 
 // The place of the eligible entry that has so many of them before it. One turn an entry: whether an
 // entry that waits has a word is kept for each entry passed, and found again by its link.
-pub(crate) fn eligible_at(entries: &[Entry], links: &[u32], j: u32) -> Option<usize>
+pub(crate) fn eligible_at(
+    entries: &[Entry],
+    links: &[u32],
+    j: u32,
+    durable: &[u32; 8],
+) -> Option<usize>
     requires ring { IsRing entries.now }
     requires linked { AreLinked entries.now links.now }
     requires few { length entries.now ≤ 64 }
-    ensures place { result ≡ slice_get (eligible_places entries.now) j }
+    ensures place { result ≡ slice_get (eligible_places durable.now entries.now) j }
     ensures within { IfSome result (λ i. i < length entries.now) }
 {
     let mut waits = [false; 64];
     let mut passed: u32 = 0;
     for i in 0..entries.len() {
         let blocked = waits_before(&waits, i, links[i]);
-        if is_eligible(entries, i, blocked) {
+        if is_eligible(entries, i, blocked, durable) {
             if passed == j {
                 return Some(i);
             }

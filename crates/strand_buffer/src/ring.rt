@@ -57,12 +57,13 @@ impl Ring {
     }
 
     // A persist that waits comes to the end.
-    pub fn accept(&mut self, number: u32, word: u64, value: u64, epoch: u32)
+    pub fn accept(&mut self, number: u32, word: u64, value: u64, epoch: u32, wait: [u32; 8])
         requires room { length self.old.entries < self.old.room }
         requires epoch { AreUpTo self.old.entries epoch }
         ensures { self.new ≡ record self.old {
           entries = self.old.entries
-              ++ record { number = number; word = word; value = value; epoch = epoch; stage = Buffered } ∷ [];
+              ++ record { number = number; word = word; value = value; epoch = epoch; wait = wait; stage = Buffered }
+              ∷ [];
         } }
     {
         let distance = distance_to(&self.entries, word);
@@ -72,15 +73,16 @@ impl Ring {
             word,
             value,
             epoch,
+            wait,
             stage: Stage::Buffered,
         });
     }
 
-    // The eligible entry that has so many of them before it.
-    pub fn eligible(&self, j: u32) -> Option<Slot>
-        ensures { result ≡ found_slot self.now.entries j }
+    // The entry eligible with these counts of durable persists that has so many of them before it.
+    pub fn eligible(&self, j: u32, durable: &[u32; 8]) -> Option<Slot>
+        ensures { result ≡ found_slot self.now.entries j durable.now }
     {
-        let place = eligible_at(&self.entries, &self.links, j)?;
+        let place = eligible_at(&self.entries, &self.links, j, durable)?;
         let entry = self.entries[place];
         Some(Slot {
             place: place as u32,

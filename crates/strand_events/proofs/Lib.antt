@@ -8,3 +8,12 @@ pub mod Kept
 pub mod Joins
 mod Rows
 pub mod Within
+pub mod Greatest
+pub mod Counted
+pub mod WaitKept
+pub mod Covered
+pub mod Meeting
+pub mod ByOrder
+pub mod VectorSteps
+pub mod Leading
+pub mod ByPrefixes

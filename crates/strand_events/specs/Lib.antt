@@ -6,3 +6,7 @@ pub mod Marks
 pub mod TraceSeen
 pub mod Numbers
 pub mod Joins
+pub mod Greatest
+pub mod Prefixes
+pub mod Waits
+pub mod Vectors

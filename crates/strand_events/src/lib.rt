@@ -8,7 +8,10 @@ mod marks;
 mod trace;
 
 pub use event::Event;
-pub use laws::persist_order_laws;
+pub use laws::{
+    persist_order_laws, waits_are_kept_by_vectors, waits_are_met_by_prefixes,
+    waits_cover_other_strands,
+};
 pub use trace::Trace;
 
 #[cfg(test)]

@@ -1,13 +1,14 @@
 -- The machine, and the drawn schedule.
 use Rattle.std.specs.Prelude.{ℕ, ◌==◌, List, if◌then◌else◌}
 use Rattle.strand_inputs.specs.Settings.{Settings}
+use Rattle.strand_inputs.specs.declared.conflict.Conflict.TheVariants.{Stall}
 use Rattle.strand_inputs.specs.declared.mode.Mode.TheVariants.{Strand}
 use Rattle.strand_inputs.specs.declared.step.Step.{Step}
 use Rattle.strand_inputs.specs.declared.step.Step.TheVariants.{Core, Dispatch, Send, Write}
 use Rattle.strand_gen.specs.Draws.{Drawn, ◌>>=◌, give, draw, draw_list, initial_state}
 
 abbrev pub generated_machine : Settings
-generated_machine = record { mode = Strand; queue = 16; buffers = 2; ring = 8; flight = 4; sets = 4; ways = 2 }
+generated_machine = record { mode = Strand; queue = 16; buffers = 2; ring = 8; flight = 4; sets = 4; ways = 2; conflict = Stall }
 
 -- c N, d N, s N B J, w J
 abbrev pub core_step : Drawn Step

@@ -8,7 +8,7 @@ use crate::schedule::generated_schedule;
 use std::alloc::Global;
 use strand_base::OutOfMemory;
 use strand_image::Image;
-use strand_inputs::{Config, Mode, Schedule};
+use strand_inputs::{Config, Conflict, Mode, Schedule};
 
 /// The inputs of a run that a seed and a size give.
 #[derive(Debug, Drop)]
@@ -39,6 +39,7 @@ pub fn generate(alloc: Global, seed: u64, size: u32) -> Result<Generated, OutOfM
         flight: 4,
         sets: 4,
         ways: 2,
+        conflict: Conflict::Stall,
     };
     Ok(Generated {
         config,

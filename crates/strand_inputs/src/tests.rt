@@ -15,8 +15,30 @@ fn a_machine_file_is_read_and_printed(rt: HostRuntime) -> Result<(), Fail> {
 }
 
 #[test]
+fn a_conflict_is_read_and_printed(rt: HostRuntime) -> Result<(), Fail> {
+    let tag = b"mode epoch\nqueue 1\nbuffers 2\nring 3\nflight 4\nsets 5\nways 6\nconflict tag\n";
+    let table: [(&[u8], Conflict, &[u8]); 2] = [
+        (tag, Conflict::Tag, tag),
+        (
+            b"conflict stall\nmode strand\nqueue 16\nbuffers 2\nring 8\nflight 4\nsets 4\nways 2\n",
+            Conflict::Stall,
+            MACHINE,
+        ),
+    ];
+    for (text, conflict, printed) in &table {
+        assert!(rt; text.len() < 100);
+        let config = read_machine(text).ok().ok_or("a machine file")?;
+        assert!(rt; config.conflict == *conflict);
+        let mut again = Vec::new(rt.alloc());
+        print_machine(&config, &mut again).ok().ok_or("memory")?;
+        assert_eq!(rt; again.as_slice(), *printed);
+    }
+    Ok(())
+}
+
+#[test]
 fn a_machine_file_is_refused_at_its_first_fault(rt: HostRuntime) {
-    let table: [(&[u8], InputFault); 5] = [
+    let table: [(&[u8], InputFault); 7] = [
         (
             b"# a comment\r\n\tmode  strict # x\r\nqueue 65\n",
             InputFault::Limit { line: 3, value: 65 },
@@ -25,6 +47,11 @@ fn a_machine_file_is_refused_at_its_first_fault(rt: HostRuntime) {
             b"mode strict\n\nmode epoch\n",
             InputFault::Repeated { line: 3, first: 1 },
         ),
+        (
+            b"conflict tag\nconflict stall\n",
+            InputFault::Repeated { line: 2, first: 1 },
+        ),
+        (b"conflict tags\n", InputFault::BadLine { line: 1 }),
         (
             b"queue 99999999999999999999\n",
             InputFault::BadLine { line: 1 },

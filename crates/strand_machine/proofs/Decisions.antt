@@ -23,7 +23,7 @@ use Rattle.strand_control.specs.declared.request.Request.{Request}
 use Rattle.strand_control.specs.Flight as flights
 use Rattle.strand_machine.specs.Lists.{listed, entry_of, entries}
 use Rattle.strand_machine.specs.Stand.{request_at, requests, BuffersStand}
-use Rattle.strand_machine.proofs.Eligible.{eligible_by_list, busy_by_list}
+use Rattle.strand_machine.proofs.Eligible.{Meets, eligible_by_list, busy_by_list}
 use Rattle.strand_machine.proofs.Room.{begun_by_front}
 use Rattle.strand_machine.proofs.Flights.{older_by_list}
 use Rattle.strand_machine.proofs.StandItem.{room_by_list}
@@ -55,17 +55,17 @@ module _ (g : Settings) (prog : Program) (s : State) where
       let older : flights.older_waits (requests g s) j r.word ≡ flights.older_waits (requests g s) j (word_at s.now.trace found.0) = ap (λ (x : Request). flights.older_waits (requests g s) j x.word) found.2 in
       (found.0, found.1, found.2, ap (write_turn s j) found.1 ∙ ap (λ b. if b then Bubble causes.OlderWaits else Done) (sym (older ∙ older_by_list g s j found.0 found.1)))
 
-  module _ (n b : ℕ) (parts : AreParts g s) (fit : FitBuffers g s) where
+  module _ (n b : ℕ) (parts : AreParts g s) (fit : FitBuffers g s) (durable : List ℕ) (meets : Meets g s durable) where
     -- a send: the eligible entry at its place among them, or none
-    pub send_none : (j : ℕ) → slice_get (eligible_places (entries g s n b)) j ≡ None → turn g prog s (Send n b j) ≡ Bubble causes.NoEntry
-    send_none j e = ap (λ xs. send_turn g s (slice_get xs j)) (eligible_by_list g s n b parts fit) ∙ ap (send_turn g s) (slice_get-map (slice_index (listed g s n b)) (eligible_places (entries g s n b)) j ∙ ap (option_map (slice_index (listed g s n b))) e)
+    pub send_none : (j : ℕ) → slice_get (eligible_places durable (entries g s n b)) j ≡ None → turn g prog s (Send n b j) ≡ Bubble causes.NoEntry
+    send_none j e = ap (λ xs. send_turn g s (slice_get xs j)) (eligible_by_list g s n b parts fit durable meets) ∙ ap (send_turn g s) (slice_get-map (slice_index (listed g s n b)) (eligible_places durable (entries g s n b)) j ∙ ap (option_map (slice_index (listed g s n b))) e)
 
-    pub send_found : (j i : ℕ) → slice_get (eligible_places (entries g s n b)) j ≡ Some i
+    pub send_found : (j i : ℕ) → slice_get (eligible_places durable (entries g s n b)) j ≡ Some i
         → (p : ℕ) × (slice_get (eligible g s n b) j ≡ Some p) × (slice_get (entries g s n b) i ≡ Some (entry_of g s p)) × (turn g prog s (Send n b j) ≡ if length s.flight == g.flight then Bubble causes.FlightFull else Done)
     send_found j i e =
         let p : ℕ = slice_index (listed g s n b) i in
-        let at : slice_get (eligible g s n b) j ≡ Some p = ap (λ xs. slice_get xs j) (eligible_by_list g s n b parts fit) ∙ slice_get-map (slice_index (listed g s n b)) (eligible_places (entries g s n b)) j ∙ ap (option_map (slice_index (listed g s n b))) e in
-        let within = (list_get (length (entries g s n b)) (is_eligible (entries g s n b)) j i e).0 in
+        let at : slice_get (eligible g s n b) j ≡ Some p = ap (λ xs. slice_get xs j) (eligible_by_list g s n b parts fit durable meets) ∙ slice_get-map (slice_index (listed g s n b)) (eligible_places durable (entries g s n b)) j ∙ ap (option_map (slice_index (listed g s n b))) e in
+        let within = (list_get (length (entries g s n b)) (is_eligible durable (entries g s n b)) j i e).0 in
         let inside : i < length (listed g s n b) = omega (arith, within, length-map (listed g s n b) (entry_of g s)) in
         (p, at, slice_get-map (entry_of g s) (listed g s n b) i ∙ ap (option_map (entry_of g s)) (slice_get-get_or (listed g s n b) i 0 inside), ap (send_turn g s) at)
 

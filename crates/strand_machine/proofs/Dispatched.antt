@@ -16,6 +16,7 @@ use Rattle.strand_rules.proofs.RingItem.{one_more, accepted_other, accepted_apar
 use Rattle.strand_buffer.specs.declared.entry.Stage.{Stage}
 use Rattle.strand_buffer.specs.declared.entry.Stage.TheVariants.{Buffered, Sent, Released}
 use Rattle.strand_buffer.specs.Entries.{from_open}
+use Rattle.strand_tags.specs.Traces.{noted_wait}
 use Rattle.strand_machine.proofs.Opened.{open_more}
 use Rattle.strand_machine.specs.Lists.{persist_number, is_of_buffer, listed, stage_of, entry_of, entries}
 use Rattle.strand_machine.proofs.Stages.{map_on, listed_member}
@@ -94,7 +95,7 @@ module _ (g : Settings) (s : State) (n k : ℕ) (first : front g s n ≡ Some k)
         let core_n = eqb-true (core_at s.now.trace k) n ((and_parts (event_is (is_item g.mode) s.now.trace k) (core_at s.now.trace k == n) k_test).1) in
         both_ways (is_accepted g s n k) (accepted_past g s n k first k (omega arith)) (subst (λ x. is_accepted g s x k ≡ true) core_n ((parts.together k).1 (inr (inr d)))))
 
-    entry_own : entry_of g then_ k ≡ record { number = persist_number s.now.trace k; word = word_at s.now.trace k; value = value_at s.now.trace k; epoch = epoch g.mode s.now.trace k; stage = Buffered }
+    entry_own : entry_of g then_ k ≡ record { number = persist_number s.now.trace k; word = word_at s.now.trace k; value = value_at s.now.trace k; epoch = epoch g.mode s.now.trace k; wait = noted_wait g.conflict g.mode s.now.trace k; stage = Buffered }
     entry_own =
         let now : held (slice_set s.buffered k true) k ≡ true = held_set s.buffered k true inside in
         let stage : stage_of then_ k ≡ Buffered = rw (is, k_undone, now) refl in
@@ -113,7 +114,7 @@ module _ (g : Settings) (s : State) (n k : ℕ) (first : front g s n ≡ Some k)
 
     -- a persist comes to the end of its buffer's list
     pub entries_accepted : entries g then_ n (buffer_of g (strand_number g.mode s.now.trace k))
-        ≡ entries g s n (buffer_of g (strand_number g.mode s.now.trace k)) ++ record { number = persist_number s.now.trace k; word = word_at s.now.trace k; value = value_at s.now.trace k; epoch = epoch g.mode s.now.trace k; stage = Buffered } ∷ []
+        ≡ entries g s n (buffer_of g (strand_number g.mode s.now.trace k)) ++ record { number = persist_number s.now.trace k; word = word_at s.now.trace k; value = value_at s.now.trace k; epoch = epoch g.mode s.now.trace k; wait = noted_wait g.conflict g.mode s.now.trace k; stage = Buffered } ∷ []
     entries_accepted =
         let b : ℕ = buffer_of g (strand_number g.mode s.now.trace k) in
         let members : list_below (length s.now.trace) (is_of_buffer g then_ n b) ≡ list_below (length s.now.trace) (is_of_buffer g s n b) ++ k ∷ [] =

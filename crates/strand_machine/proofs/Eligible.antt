@@ -1,5 +1,5 @@
 -- The eligible persists of a buffer by its list.
-use Rattle.std.proofs.Common.{◌≡◌, ℕ, suc, ◌<◌, Bool, true, false, ◌&&◌, inl, inr, length, map, refl, sym, ap, subst, ◌∙◌, arith}
+use Rattle.std.proofs.Common.{◌≡◌, ℕ, suc, ◌<◌, Bool, true, false, ◌&&◌, inl, inr, List, length, map, refl, sym, ap, subst, ◌∙◌, arith}
 use Rattle.std.specs.Prelude.{not, nat_lt, ◌==◌, slice_get, slice_index, Some}
 use Rattle.std.specs.Option.{option_map}
 use Rattle.std.proofs.lemmas.Bool.{cases_Bool, cases_lt, and_parts, and_from, not-true, eqb-true, eq-eqb, ltb-true, lt-ltb, true≢false, false_from_ne_true}
@@ -11,31 +11,35 @@ use Rattle.strand_inputs.specs.Settings.{Settings}
 use Rattle.strand_events.specs.Trace.{is_persist, core_at, word_at, event_is, core_event_is, strand_number, same_strand, epoch}
 use Rattle.strand_events.specs.Order.{held}
 use Rattle.strand_events.proofs.Epochs.{strand_parts, strand_from, strand_flip, epochs_rise}
-use Rattle.strand_rules.specs.Cycle.{State, is_item, gone, is_accepted, is_dispatched, buffer_of, buffer_busy, is_lower, epoch_waits, word_waits, is_in_buffer, is_eligible, eligible}
+use Rattle.strand_rules.specs.Cycle.{State, is_item, gone, is_accepted, is_dispatched, buffer_of, buffer_busy, is_lower, epoch_waits, word_waits, is_in_buffer, persist_unmet, is_eligible, eligible}
 use Rattle.strand_rules.specs.Parts.{AreParts, FitBuffers, IsOpen}
 use Rattle.strand_rules.proofs.Ranks.{rank_earlier}
 use Rattle.strand_rules.proofs.PartsKept.{accepted_rank, rank_accepted}
 use Rattle.strand_base.proofs.Finding.{list_at}
 use Rattle.strand_buffer.specs.declared.entry.Entry.{Entry}
-use Rattle.strand_buffer.specs.Entries.{from_open, is_buffered, is_open, entry_is, passes, epoch_at, epoch_in, eligible_places}
+use Rattle.strand_buffer.specs.Entries.{is_buffered, is_open, entry_is, passes, epoch_at, epoch_in, eligible_places}
 use Rattle.strand_buffer.specs.Entries as entry_lists
 use Rattle.strand_machine.proofs.Opened.{is_used, some_open, open_below, open_empty, some_below, list_within}
 use Rattle.strand_machine.specs.Lists.{is_of_buffer, listed, entry_of, entries}
 use Rattle.strand_tags.proofs.Waiting.{alike}
 
-not_not : (x : Bool) → not (not x) ≡ x
+pub not_not : (x : Bool) → not (not x) ≡ x
 not_not true = refl
 not_not false = refl
 
-none_of : (x y z : Bool) → x ≡ false → (x && y && z) ≡ false
-none_of x y z e = rw e refl
+none_of : (x y z w : Bool) → x ≡ false → (x && y && z && w) ≡ false
+none_of x y z w e = rw e refl
 
 told_in : (x y z : Bool) → y ≡ true → z ≡ true → (x && y && z) ≡ x
 told_in true y z e e' = rw (e, e') refl
 told_in false y z e e' = refl
 
-each_of : (x y z x' y' z' : Bool) → x ≡ x' → y ≡ y' → z ≡ z' → (x && y && z) ≡ (x' && y' && z')
-each_of x y z x' y' z' e e' e'' = rw (e, e', e'') refl
+each_of : (x y z w x' y' z' w' : Bool) → x ≡ x' → y ≡ y' → z ≡ z' → w ≡ w' → (x && y && z && w) ≡ (x' && y' && z' && w')
+each_of x y z w x' y' z' w' e e' e'' f = rw (e, e', e'', f) refl
+
+-- With these counts of durable first persists the wait of each persist is met where the rules find it so.
+abbrev pub Meets : Settings → State → List ℕ → Type 0
+Meets g s durable = (p : ℕ) → entry_lists.is_met durable (entry_of g s p) ≡ not (persist_unmet g.conflict g.mode s.now.trace (held s.durable) p)
 
 -- the next strand's buffer is empty exactly where its list is
 pub busy_by_list : (g : Settings) (s : State) (n b : ℕ) → buffer_busy g s n b ≡ not (length (listed g s n b) == 0)
@@ -206,33 +210,38 @@ module _ (g : Settings) (s : State) (n b : ℕ) (parts : AreParts g s) (fit : Fi
         (eq-eqb (entry_lists.word_at (entries g s n b) (count_below q used)) (entry_lists.word_at (entries g s n b) i)
         (ap entry_lists.word_in entry ∙ eqb-true (word_at s.now.trace q) (word_at s.now.trace p) one.1 ∙ sym (ap entry_lists.word_in (entry_at i p at))))))
 
-  eligible_alike : (i p : ℕ) → slice_get (listed g s n b) i ≡ Some p → entry_lists.is_eligible (entries g s n b) i ≡ is_eligible g s n b p
-  eligible_alike i p at =
-      let first : entry_is is_buffered (entries g s n b) i ≡ held s.buffered p = ap (passes is_buffered) (entry_at i p at) ∙ stage_buffered p in
-      let in_list = list_get (length s.now.trace) used i p (ap (λ xs. slice_get xs i) (sym listed_is) ∙ at) in
-      let m = member p (ring_from p in_list.1) in
-      let held_in : is_in_buffer g s n b p ≡ held s.buffered p = told_in (held s.buffered p) (core_at s.now.trace p == n) (buffer_of g (strand_number g.mode s.now.trace p) == b) (eq-eqb (core_at s.now.trace p) n m.1) (eq-eqb (buffer_of g (strand_number g.mode s.now.trace p)) b m.2) in
-      elim (cases_Bool (held s.buffered p)) [
-        | inr no_ ↦
-            none_of (entry_is is_buffered (entries g s n b) i) (not (entry_lists.epoch_waits (entries g s n b) i)) (not (entry_lists.word_waits (entries g s n b) i)) (first ∙ no_)
-            ∙ sym (none_of (is_in_buffer g s n b p) (not (epoch_waits g s p)) (not (word_waits g s p)) (held_in ∙ no_))
-        | inl yes_ ↦ each_of (entry_is is_buffered (entries g s n b) i) (not (entry_lists.epoch_waits (entries g s n b) i)) (not (entry_lists.word_waits (entries g s n b) i)) (is_in_buffer g s n b p) (not (epoch_waits g s p)) (not (word_waits g s p))
-            (first ∙ sym held_in) (ap not (epochs_alike i p at yes_)) (ap not (words_alike i p at yes_))
-      ]
-
   -- an eligible persist is in the list
   eligible_used : (p : ℕ) → p < length s.now.trace → is_eligible g s n b p ≡ true → used p ≡ true
   eligible_used p lt h =
-      let inside = (and_parts (is_in_buffer g s n b p) (not (epoch_waits g s p)) (and_parts (is_in_buffer g s n b p && not (epoch_waits g s p)) (not (word_waits g s p)) h).0).0 in
+      let ready = (and_parts (is_in_buffer g s n b p && not (epoch_waits g s p) && not (word_waits g s p)) (not (persist_unmet g.conflict g.mode s.now.trace (held s.durable) p)) h).0 in
+      let inside = (and_parts (is_in_buffer g s n b p) (not (epoch_waits g s p)) (and_parts (is_in_buffer g s n b p && not (epoch_waits g s p)) (not (word_waits g s p)) ready).0).0 in
       let one = and_parts (held s.buffered p && (core_at s.now.trace p == n)) (buffer_of g (strand_number g.mode s.now.trace p) == b) inside in
       let two = and_parts (held s.buffered p) (core_at s.now.trace p == n) one.0 in
       let c = eqb-true (core_at s.now.trace p) n two.1 in
       let accepted : is_accepted g s n p ≡ true = subst (λ m. is_accepted g s m p ≡ true) c ((parts.together p).1 (inl two.0)) in
       (listed_at p (and_from (is_accepted g s n p) (buffer_of g (strand_number g.mode s.now.trace p) == b) accepted one.1) (buffered_open p two.0) lt).0
 
-  -- the eligible persists are those at the eligible places of the list
-  pub eligible_by_list : eligible g s n b ≡ map (slice_index (listed g s n b)) (eligible_places (entries g s n b))
-  eligible_by_list =
-      list_within (length s.now.trace) used (is_eligible g s n b) (entry_lists.is_eligible (entries g s n b)) eligible_used (λ i p e. eligible_alike i p (ap (λ xs. slice_get xs i) listed_is ∙ e))
-      ∙ ap (λ xs. map (slice_index xs) (list_below (length xs) (entry_lists.is_eligible (entries g s n b)))) (sym listed_is)
-      ∙ ap (λ k. map (slice_index (listed g s n b)) (list_below k (entry_lists.is_eligible (entries g s n b)))) (sym (length-map (listed g s n b) (entry_of g s)))
+  module _ (durable : List ℕ) (meets : Meets g s durable) where
+    eligible_alike : (i p : ℕ) → slice_get (listed g s n b) i ≡ Some p → entry_lists.is_eligible durable (entries g s n b) i ≡ is_eligible g s n b p
+    eligible_alike i p at =
+        let first : entry_is is_buffered (entries g s n b) i ≡ held s.buffered p = ap (passes is_buffered) (entry_at i p at) ∙ stage_buffered p in
+        let met : entry_is (entry_lists.is_met durable) (entries g s n b) i ≡ not (persist_unmet g.conflict g.mode s.now.trace (held s.durable) p) = ap (passes (entry_lists.is_met durable)) (entry_at i p at) ∙ meets p in
+        let in_list = list_get (length s.now.trace) used i p (ap (λ xs. slice_get xs i) (sym listed_is) ∙ at) in
+        let m = member p (ring_from p in_list.1) in
+        let held_in : is_in_buffer g s n b p ≡ held s.buffered p = told_in (held s.buffered p) (core_at s.now.trace p == n) (buffer_of g (strand_number g.mode s.now.trace p) == b) (eq-eqb (core_at s.now.trace p) n m.1) (eq-eqb (buffer_of g (strand_number g.mode s.now.trace p)) b m.2) in
+        elim (cases_Bool (held s.buffered p)) [
+          | inr no_ ↦
+              none_of (entry_is is_buffered (entries g s n b) i) (not (entry_lists.epoch_waits (entries g s n b) i)) (not (entry_lists.word_waits (entries g s n b) i)) (entry_is (entry_lists.is_met durable) (entries g s n b) i) (first ∙ no_)
+              ∙ sym (none_of (is_in_buffer g s n b p) (not (epoch_waits g s p)) (not (word_waits g s p)) (not (persist_unmet g.conflict g.mode s.now.trace (held s.durable) p)) (held_in ∙ no_))
+          | inl yes_ ↦
+              each_of (entry_is is_buffered (entries g s n b) i) (not (entry_lists.epoch_waits (entries g s n b) i)) (not (entry_lists.word_waits (entries g s n b) i)) (entry_is (entry_lists.is_met durable) (entries g s n b) i)
+              (is_in_buffer g s n b p) (not (epoch_waits g s p)) (not (word_waits g s p)) (not (persist_unmet g.conflict g.mode s.now.trace (held s.durable) p))
+              (first ∙ sym held_in) (ap not (epochs_alike i p at yes_)) (ap not (words_alike i p at yes_)) met
+        ]
+
+    -- the eligible persists are those at the eligible places of the list
+    pub eligible_by_list : eligible g s n b ≡ map (slice_index (listed g s n b)) (eligible_places durable (entries g s n b))
+    eligible_by_list =
+        list_within (length s.now.trace) used (is_eligible g s n b) (entry_lists.is_eligible durable (entries g s n b)) eligible_used (λ i p e. eligible_alike i p (ap (λ xs. slice_get xs i) listed_is ∙ e))
+        ∙ ap (λ xs. map (slice_index xs) (list_below (length xs) (entry_lists.is_eligible durable (entries g s n b)))) (sym listed_is)
+        ∙ ap (λ k. map (slice_index (listed g s n b)) (list_below k (entry_lists.is_eligible durable (entries g s n b)))) (sym (length-map (listed g s n b) (entry_of g s)))

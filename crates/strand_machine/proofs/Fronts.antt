@@ -4,6 +4,7 @@ use Rattle.std.specs.Prelude.{slice_get, Some, None, MatchOption, if◌then◌el
 use Rattle.std.specs.Option.{option_map}
 use Rattle.std.specs.declared.option.Option.{Option}
 use Rattle.std.proofs.lemmas.Bool.{cases_Bool}
+use Rattle.std.proofs.lemmas.List.{length-map}
 use Rattle.std.proofs.lemmas.Option.{none-some, same_Some}
 use Rattle.strand_exec.specs.Memory.{extents_of}
 use Rattle.strand_inputs.specs.Settings.{Settings}
@@ -28,7 +29,8 @@ use Rattle.strand_machine.specs.declared.machine.Machine.TheInside.{Inside}
 use Rattle.strand_machine.specs.KeptMachine.{IsHeld, seen}
 use Rattle.strand_machine.specs.Lists.{persist_number}
 use Rattle.strand_machine.specs.Machine.{RingMachine, PartsStand}
-use Rattle.strand_machine.specs.Changed.{CanTake, with_dispatched}
+use Rattle.strand_tags.specs.Traces.{noted_wait}
+use Rattle.strand_machine.specs.Changed.{CanTake, HasWait, with_dispatched}
 use Rattle.strand_machine.specs.Stand.{BuffersStand, Stand, buffers_at, item_of, queue_at}
 use Rattle.strand_machine.proofs.Decisions.{dispatch_begin, dispatch_persist}
 use Rattle.strand_machine.proofs.Held.{HasRooms}
@@ -46,6 +48,7 @@ pub record Holds (r : RingMachine) : Type 0 where
   pub buffers : 0 < r.machine.config.buffers
   pub stand : PartsStand r
   pub rooms : HasRooms r.machine r.parts
+  pub wait_room : r.parts.waiting.room ≡ r.machine.steps
   pub extents : extents_of r.machine.state.now.memory ≡ r.machine.program.sizes
 
 pub holds_inside : (m : Inside) → IsHeld m → IsKept m.pipeline → 0 < m.pipeline.config.buffers → Holds (seen m)
@@ -55,6 +58,7 @@ holds_inside m is kept buffers = record {
   buffers = buffers;
   stand = is.stand;
   rooms = is.rooms;
+  wait_room = is.wait_room;
   extents = is.extents;
 }
 
@@ -203,6 +207,18 @@ module _ (r : RingMachine) (n : ℕ) (item : Item) (is_first : IsFirst r n item)
     -- the buffers can take it
     pub can_take : CanTake bs item
     can_take = subst (CanTake bs) (sym front_event.2) take_event
+
+  -- its wait is kept, where it is a persist
+  pub has_wait : HasWait r.parts item
+  has_wait = subst (HasWait r.parts) (sym front_event.2) (elim (cases_Bool (event_is is_persist s.now.trace k)) [
+    | inl is ↦
+        let size : length r.parts.waiting.waits ≡ length (persists_of s.now.trace) = ap length holds.stand.waits ∙ length-map (persists_of s.now.trace) (noted_wait g.conflict g.mode s.now.trace) in
+        subst (HasWait r.parts) (sym (item_persist g s k is)) (omega (arith, number_within s.now.trace k is, size))
+    | inr no_ ↦ elim (cases_Bool (event_is is_barrier s.now.trace k)) [
+      | inl is ↦ subst (HasWait r.parts) (sym (item_barrier g s k no_ is)) tt
+      | inr none ↦ subst (HasWait r.parts) (sym (item_begin g s k no_ none)) tt
+    ]
+  ])
 
   -- the parts stand after its dispatch
   pub stand_after : Stand g r.machine.program.sizes (item_after s n (front g s n)) (with_dispatched r.parts n item)

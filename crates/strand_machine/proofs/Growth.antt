@@ -6,6 +6,7 @@ use Rattle.std.proofs.lemmas.Bool.{cases_Bool, and_parts, eqb-true, eq-eqb, true
 use Rattle.std.proofs.lemmas.List.{map-append}
 use Rattle.std.proofs.lemmas.Option.{slice_get-map, slice_get-get_or, slice_get_within, same_Some}
 use Rattle.strand_base.proofs.Counting.{count_agree, count_yes, count_no, get_last}
+use Rattle.strand_inputs.specs.declared.conflict.Conflict.{Conflict}
 use Rattle.strand_inputs.specs.declared.mode.Mode.{Mode}
 use Rattle.strand_inputs.specs.declared.mode.Mode.TheVariants.{Strict, Epoch, Strand}
 use Rattle.strand_events.specs.declared.event.Event.{Event}
@@ -22,7 +23,8 @@ use Rattle.strand_base.proofs.Finding.{list_at}
 use Rattle.strand_rules.proofs.Growing.{length_grown}
 use Rattle.strand_rules.proofs.Marked.{held_other}
 use Rattle.strand_tags.specs.Access.{Access, access, noted_as}
-use Rattle.strand_tags.specs.Traces.{leading, core_persists, durable_prefix, made_below, noted_at, noted_accesses}
+use Rattle.strand_events.specs.Prefixes.{leading, core_persists, durable_prefix, made_below}
+use Rattle.strand_tags.specs.Traces.{noted_wait, noted_at, noted_accesses}
 use Rattle.strand_tags.proofs.Longer.{list_grown, made_kept, access_noted}
 use Rattle.strand_machine.specs.Lists.{persist_number}
 use Rattle.strand_machine.proofs.Opened.{map_below}
@@ -48,15 +50,16 @@ module _ (t : List Event) (e : Event) where
   pub own_count : made_below (t ++ e ∷ []) (core_of e) (length t + 1) ≡ made_below t (core_of e) (length t) + (if is_persist e then 1 else 0)
   own_count = made_grown (core_of e) ∙ (elim (cases_Bool (is_persist e)) [ inl yes_ ↦ rw (yes_, eq-eqb (core_of e) (core_of e) refl) refl | inr no_ ↦ rw no_ refl ])
 
-  module _ (mode : Mode) where
-    noted_new : noted_at mode (t ++ e ∷ []) (length t) ≡ noted_as (next_access mode t e) (made_below t (core_of e) (length t) + (if is_persist e then 1 else 0))
+  module _ (conflict : Conflict) (mode : Mode) where
+    noted_new : noted_at conflict mode (t ++ e ∷ []) (length t) ≡ noted_as (next_access mode t e) (made_below t (core_of e) (length t) + (if is_persist e then 1 else 0)) (noted_wait conflict mode (t ++ e ∷ []) (length t))
     noted_new =
         let made : made_below (t ++ e ∷ []) (core_at (t ++ e ∷ []) (length t)) (length t + 1) ≡ made_below t (core_of e) (length t) + (if is_persist e then 1 else 0) = ap (λ c. made_below (t ++ e ∷ []) c (length t + 1)) (core_new t e) ∙ own_count in
         cc (core_new t e, number_new mode t e, ap word_in (get_last t e), last_is is_store t e, made)
 
     -- a new access is noted at the end
-    pub noted_grown : is_access e ≡ true → noted_accesses mode (t ++ e ∷ []) ≡ noted_accesses mode t ++ noted_as (next_access mode t e) (made_below t (core_of e) (length t) + (if is_persist e then 1 else 0)) ∷ []
-    noted_grown is = access_noted t e mode is ∙ ap (λ n. noted_accesses mode t ++ n ∷ []) noted_new
+    pub noted_grown : is_access e ≡ true → noted_accesses conflict mode (t ++ e ∷ [])
+        ≡ noted_accesses conflict mode t ++ noted_as (next_access mode t e) (made_below t (core_of e) (length t) + (if is_persist e then 1 else 0)) (noted_wait conflict mode (t ++ e ∷ []) (length t)) ∷ []
+    noted_grown is = access_noted t e conflict mode is ∙ ap (λ n. noted_accesses conflict mode t ++ n ∷ []) noted_new
 
   number_kept_at : (p : ℕ) → p < length t → persist_number (t ++ e ∷ []) p ≡ persist_number t p
   number_kept_at p lt = count_agree p (event_is is_persist (t ++ e ∷ [])) (event_is is_persist t) (λ i below. event_is_kept t e is_persist i (omega arith))
@@ -80,7 +83,7 @@ module _ (t : List Event) (e : Event) where
 abbrev pub begins : Mode → Event → Bool
 begins mode e = is_item mode e && is_new_strand e
 
-and_false : (x : Bool) → (x && false) ≡ false
+pub and_false : (x : Bool) → (x && false) ≡ false
 and_false true = refl
 and_false false = refl
 

@@ -30,11 +30,12 @@ module _ (m m' : Machine) (s : State) (parts parts' now : PartsSeen) (e : m' ≡
 
 -- what the fields keep, where the machine has moved on to a state and the parts have moved on too
 pub held_moved : (r : RingMachine) (s : State) (m : Machine) (parts now : PartsSeen) → with_memory parts.cache.memory m ≡ made_to r.machine s → parts ≡ now
-    → Stand r.machine.config r.machine.program.sizes s now → HasRooms (made_to r.machine s) now → IsReached r.machine.config r.machine.program s → extents_of now.cache.memory ≡ r.machine.program.sizes
+    → Stand r.machine.config r.machine.program.sizes s now → HasRooms (made_to r.machine s) now → now.waiting.room ≡ r.machine.steps → IsReached r.machine.config r.machine.program s → extents_of now.cache.memory ≡ r.machine.program.sizes
     → IsHeld (record { pipeline = m; parts = parts })
-held_moved r s m parts now is parts_are stand rooms reached extents = record {
+held_moved r s m parts now is parts_are stand rooms wait_room reached extents = record {
   stand = stand_moved r.machine (with_memory parts.cache.memory m) s r.parts parts now is parts_are stand;
   rooms = rooms_moved r.machine (with_memory parts.cache.memory m) s r.parts parts now is parts_are rooms;
+  wait_room = ap (λ (p : PartsSeen). p.waiting.room) parts_are ∙ wait_room ∙ sym (ap (λ (m : Machine). m.steps) is);
   reached = subst (λ (m : Machine). IsReached m.config m.program m.state) (sym is) reached;
   extents = ap (λ (p : PartsSeen). extents_of p.cache.memory) parts_are ∙ extents ∙ sym (ap (λ (m : Machine). m.program.sizes) is);
 }

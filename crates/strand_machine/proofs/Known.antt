@@ -18,7 +18,7 @@ use Rattle.strand_events.specs.Order.{held}
 use Rattle.strand_events.proofs.Within.{event_within}
 use Rattle.strand_rules.specs.declared.turn.Cause.TheVariants as causes
 use Rattle.strand_rules.specs.declared.turn.Turn.TheVariants.{Done, Bubble}
-use Rattle.strand_rules.specs.Cycle.{State, IsReached, is_item, is_accepted, is_dispatched, gone, buffer_of, is_eligible, is_in_buffer, epoch_waits, word_waits, turn, write_after}
+use Rattle.strand_rules.specs.Cycle.{State, IsReached, is_item, is_accepted, is_dispatched, gone, buffer_of, is_eligible, is_in_buffer, epoch_waits, word_waits, persist_unmet, turn, write_after}
 use Rattle.strand_rules.specs.Kept.{IsKept}
 use Rattle.strand_modules.specs.Bank.{BankSeen}
 use Rattle.strand_rules.specs.Machine.{Machine, StoresOk, StoresErr, durable_persists, stored_by, stored_for}
@@ -40,10 +40,11 @@ use Rattle.strand_control.specs.Flight.{Flight, LieInBank, Writes}
 use Rattle.strand_machine.specs.Lists.{persist_number, entries, is_of_buffer, stage_of}
 use Rattle.strand_machine.specs.Changed.{durable_first, with_written}
 use Rattle.strand_machine.specs.Machine.{SlotIs}
-use Rattle.strand_machine.specs.Stand.{PartsSeen, Stand, buffers_at, tally_at, request_at, requests}
+use Rattle.strand_machine.specs.Stand.{PartsSeen, Stand, buffers_at, tally_at, prefixes, request_at, requests}
 use Rattle.strand_machine.proofs.Opened.{is_used}
-use Rattle.strand_machine.proofs.Eligible.{entry_at, listed_at, buffered_open}
-use Rattle.strand_tags.specs.Traces.{core_persists, durable_prefix, leading}
+use Rattle.strand_machine.proofs.Eligible.{Meets, entry_at, listed_at, buffered_open}
+use Rattle.strand_machine.proofs.MetByCounts.{met_by_counts}
+use Rattle.strand_events.specs.Prefixes.{core_persists, durable_prefix, leading}
 use Rattle.strand_rules.proofs.Marked.{held_set, held_other}
 use Rattle.strand_machine.proofs.Growth.{first_by_marks, leading_more}
 use Rattle.strand_machine.proofs.StandWrite.{turn_found, turn_none, stand_write}
@@ -124,44 +125,49 @@ module _ (m : Machine) (reached : IsReached m.config m.program m.state) (kept : 
           ap (λ es. entry_lists.number_at es i) list ∙ ap number_in entry,
         )
 
-    slot_from : (entries : List Entry) (j : ℕ) (slot : Slot) → found_slot entries j ≡ Some slot → (i : ℕ) × (slice_get (eligible_places entries) j ≡ Some i) × (slot ≡ slot_at entries i)
-    slot_from entries j slot e = go (slice_get (eligible_places entries) j) refl e
+    -- with what is counted the wait of each persist is met where the rules find it so
+    pub meets : Meets m.config m.state (prefixes parts)
+    meets = met_by_counts g s m.program.sizes parts stand (reached_good g m.program s reached).owned (omega (arith, kept.cores))
+
+    slot_from : (durable : List ℕ) (entries : List Entry) (j : ℕ) (slot : Slot) → found_slot entries j durable ≡ Some slot → (i : ℕ) × (slice_get (eligible_places durable entries) j ≡ Some i) × (slot ≡ slot_at entries i)
+    slot_from durable entries j slot e = go (slice_get (eligible_places durable entries) j) refl e
       where
-        go : (o : Option ℕ) → slice_get (eligible_places entries) j ≡ o → option_map (slot_at entries) o ≡ Some slot → (i : ℕ) × (slice_get (eligible_places entries) j ≡ Some i) × (slot ≡ slot_at entries i)
+        go : (o : Option ℕ) → slice_get (eligible_places durable entries) j ≡ o → option_map (slot_at entries) o ≡ Some slot → (i : ℕ) × (slice_get (eligible_places durable entries) j ≡ Some i) × (slot ≡ slot_at entries i)
         go None at none = absurd (none-some slot none)
         go (Some i) at some = (i, at, sym (same_Some (slot_at entries i) slot some))
 
-    slot_none : (entries : List Entry) (j : ℕ) → found_slot entries j ≡ None → slice_get (eligible_places entries) j ≡ None
-    slot_none entries j e = go (slice_get (eligible_places entries) j) refl e
+    slot_none : (durable : List ℕ) (entries : List Entry) (j : ℕ) → found_slot entries j durable ≡ None → slice_get (eligible_places durable entries) j ≡ None
+    slot_none durable entries j e = go (slice_get (eligible_places durable entries) j) refl e
       where
-        go : (o : Option ℕ) → slice_get (eligible_places entries) j ≡ o → option_map (slot_at entries) o ≡ None → slice_get (eligible_places entries) j ≡ None
+        go : (o : Option ℕ) → slice_get (eligible_places durable entries) j ≡ o → option_map (slot_at entries) o ≡ None → slice_get (eligible_places durable entries) j ≡ None
         go None at none = at
         go (Some i) at some = absurd (none-some (slot_at entries i) (sym some))
 
-    pub no_slot : (n b j : ℕ) → n < length m.state.now.cores → b < m.config.buffers → eligible_slot (buffers_at parts n) b j ≡ None → turn m.config m.program m.state (Send n b j) ≡ Bubble causes.NoEntry
+    pub no_slot : (n b j : ℕ) → n < length m.state.now.cores → b < m.config.buffers → eligible_slot (buffers_at parts n) b j (prefixes parts) ≡ None → turn m.config m.program m.state (Send n b j) ≡ Bubble causes.NoEntry
     no_slot n b j core buffer e =
         let list = (stand.buffers n core).lists b buffer in
-        send_none g m.program s n b parts_hold buffers_fit j (slot_none (entries g s n b) j (ap (λ es. found_slot es j) (sym list) ∙ e))
+        send_none g m.program s n b parts_hold buffers_fit (prefixes parts) meets j (slot_none (prefixes parts) (entries g s n b) j (ap (λ es. found_slot es j (prefixes parts)) (sym list) ∙ e))
 
-    pub slot_facts : (n b j : ℕ) (slot : Slot) → n < length m.state.now.cores → b < m.config.buffers → eligible_slot (buffers_at parts n) b j ≡ Some slot
+    pub slot_facts : (n b j : ℕ) (slot : Slot) → n < length m.state.now.cores → b < m.config.buffers → eligible_slot (buffers_at parts n) b j (prefixes parts) ≡ Some slot
         → (p : ℕ) × SlotIs (record { machine = m; parts = parts }) n b j slot p × (turn m.config m.program m.state (Send n b j) ≡ (if length m.state.flight == m.config.flight then Bubble causes.FlightFull else Done))
     slot_facts n b j slot core buffer e =
         let list : list_in (buffers_at parts n) b ≡ entries g s n b = (stand.buffers n core).lists b buffer in
-        let from = slot_from (entries g s n b) j slot (ap (λ es. found_slot es j) (sym list) ∙ e) in
+        let from = slot_from (prefixes parts) (entries g s n b) j slot (ap (λ es. found_slot es j (prefixes parts)) (sym list) ∙ e) in
         let i = from.0 in
-        let found = send_found g m.program s n b parts_hold buffers_fit j i from.1 in
+        let found = send_found g m.program s n b parts_hold buffers_fit (prefixes parts) meets j i from.1 in
         let p = found.0 in
         let in_list = list_get (length s.now.trace) (is_eligible g s n b) j p found.1 in
-        let inside = (and_parts (is_in_buffer g s n b p) _ ((and_parts (is_in_buffer g s n b p && not (epoch_waits g s p)) (not (word_waits g s p)) in_list.1).0)).0 in
+        let ready = (and_parts (is_in_buffer g s n b p && not (epoch_waits g s p) && not (word_waits g s p)) (not (persist_unmet g.conflict g.mode s.now.trace (held s.durable) p)) in_list.1).0 in
+        let inside = (and_parts (is_in_buffer g s n b p) _ ((and_parts (is_in_buffer g s n b p && not (epoch_waits g s p)) (not (word_waits g s p)) ready).0)).0 in
         let one = and_parts (held s.buffered p && (core_at s.now.trace p == n)) (buffer_of g (strand_number g.mode s.now.trace p) == b) inside in
         let two = and_parts (held s.buffered p) (core_at s.now.trace p == n) one.0 in
-        let may = list_get (length (entries g s n b)) (entry_lists.is_eligible (entries g s n b)) j i from.1 in
+        let may = list_get (length (entries g s n b)) (entry_lists.is_eligible (prefixes parts) (entries g s n b)) j i from.1 in
         let slot_is : slot ≡ slot_at (entries g s n b) i = from.2 in
         let taken = waiting_taken p two.0 in (
           p,
           record {
             at = found.1;
-            waits = two.0;
+            buffered = two.0;
             undone = buffered_open g s n b parts_hold buffers_fit p two.0;
             persist = taken.persist;
             core = taken.core;
@@ -172,13 +178,13 @@ module _ (m : Machine) (reached : IsReached m.config m.program m.state) (kept : 
               ap (λ (x : Slot). x.word) slot_is ∙ ap word_in found.2,
               ap (λ (x : Slot). x.value) slot_is ∙ ap value_in found.2,
             );
-            eligible = subst (λ es. (i : ℕ) × (entry_lists.is_eligible es i ≡ true) × (entry_lists.number_at es i ≡ slot.number)) (sym list) (i, may.1, sym (ap (λ (x : Slot). x.number) slot_is));
+            eligible = subst (λ es. (i : ℕ) × (entry_lists.is_eligible (prefixes parts) es i ≡ true) × (entry_lists.number_at es i ≡ slot.number)) (sym list) (i, may.1, sym (ap (λ (x : Slot). x.number) slot_is));
           },
           found.3,
         )
 
     -- a send by the room for requests
-    pub send_turned : (n b j : ℕ) (slot : Slot) → n < length m.state.now.cores → b < m.config.buffers → eligible_slot (buffers_at parts n) b j ≡ Some slot
+    pub send_turned : (n b j : ℕ) (slot : Slot) → n < length m.state.now.cores → b < m.config.buffers → eligible_slot (buffers_at parts n) b j (prefixes parts) ≡ Some slot
         → (room : Bool) → nat_lt (length parts.control.requests) parts.control.limit ≡ room → turn m.config m.program m.state (Send n b j) ≡ (if room then Done else Bubble causes.FlightFull)
     send_turned n b j slot core buffer e room is =
         let facts = slot_facts n b j slot core buffer e in

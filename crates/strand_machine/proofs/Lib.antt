@@ -4,9 +4,11 @@ pub mod Growth
 pub mod ItemKinds
 pub mod Tallying
 pub mod Eligible
+pub mod MetByCounts
 pub mod Room
 pub mod Stages
 pub mod Dispatched
+pub mod PersistWaits
 pub mod Longer
 pub mod Queued
 pub mod Flights
@@ -22,5 +24,6 @@ pub mod Held
 pub mod Known
 pub mod Waits
 pub mod Fronts
+pub mod Asking
 pub mod NextEvent
 pub mod Retires

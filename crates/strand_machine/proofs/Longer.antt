@@ -16,6 +16,7 @@ use Rattle.strand_buffer.specs.Entries.{from_open}
 use Rattle.strand_machine.specs.Lists.{persist_number, is_of_buffer, listed, stage_of, entry_of, entries}
 use Rattle.strand_rules.proofs.RingSteps.{accepted_kept, accepted_new}
 use Rattle.strand_tags.proofs.Longer.{list_grown}
+use Rattle.strand_machine.proofs.PersistWaits.{wait_longer}
 use Rattle.strand_machine.proofs.Stages.{map_on, listed_member}
 
 module _ (g : Settings) (t : List Event) (e : Event) (dispatched : List ℕ) (buffered : List Bool) (flight : List ℕ) (durable : List Bool)
@@ -34,7 +35,7 @@ module _ (g : Settings) (t : List Event) (e : Event) (dispatched : List ℕ) (bu
       let number : persist_number (t ++ e ∷ []) p ≡ persist_number t p = count_agree p (event_is is_persist (t ++ e ∷ [])) (event_is is_persist t) (λ k below. event_is_kept t e is_persist k (omega arith)) in
       let value : value_at (t ++ e ∷ []) p ≡ value_at t p = ap value_in (get_more t e p lt) in
       let stage : stage_of then_ p ≡ stage_of before p = cc (held_more durable p, held_more buffered p) in
-      cc (number, value, stage, word_kept t e p lt, epoch_kept t e g.mode p lt)
+      cc (number, value, stage, word_kept t e p lt, epoch_kept t e g.mode p lt, wait_longer g.conflict g.mode t e p lt)
 
   listed_kept : (n b : ℕ) → listed g then_ n b ≡ listed g before n b
   listed_kept n b =

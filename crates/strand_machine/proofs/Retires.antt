@@ -1,11 +1,12 @@
 -- The parts after a core retired its instruction.
 use Rattle.std.proofs.Common.{◌≡◌, ℕ, ◌-◌, ◌<◌, ◌≤◌, Bool, true, false, ◌&&◌, inl, inr, List, [], ◌∷◌, ◌++◌, length, refl, sym, ap, subst, ◌∙◌, arith}
-use Rattle.std.specs.Prelude.{◌==◌, slice_get, slice_index, Some, None, IfSome, if◌then◌else◌}
+use Rattle.std.specs.Prelude.{◌==◌, ◌^◌, slice_get, slice_index, Some, None, IfSome, if◌then◌else◌}
 use Rattle.std.specs.declared.option.Option.{Option}
 use Rattle.std.proofs.lemmas.Bool.{cases_Bool, cases_eq, eq-eqb, both_ways}
 use Rattle.std.proofs.lemmas.List.{length-map}
 use Rattle.strand_base.specs.Counting.{count_below}
 use Rattle.strand_base.proofs.Counting.{get_last, list_length}
+use Rattle.strand_inputs.specs.declared.conflict.Conflict.TheVariants.{Tag}
 use Rattle.strand_inputs.specs.declared.mode.Mode.{Mode}
 use Rattle.strand_events.specs.declared.event.Event.{Event}
 use Rattle.strand_events.specs.Trace.{core_of, word_of, is_access, is_store, is_persist, is_join, core_event_is}
@@ -15,7 +16,7 @@ use Rattle.strand_rules.specs.declared.turn.Turn.TheVariants.{Done, Bubble}
 use Rattle.strand_rules.specs.Visible.{event_of, grown, loaded, memory_after, next_plan, plan_by, plan_in}
 use Rattle.strand_rules.specs.Pipeline.{IsReachedWithSome, retired_to, with_memory}
 use Rattle.strand_rules.proofs.Retiring.{retired_reached, retires}
-use Rattle.strand_rules.specs.Cycle.{IsReached, State, is_item, join_waits, made_turn, must_wait, queued, core_after, event_in, next_event}
+use Rattle.strand_rules.specs.Cycle.{IsReached, State, access_waits, is_item, join_waits, made_turn, queued, core_after, event_in, next_event}
 use Rattle.strand_rules.specs.Machine.{Machine, Runs, made_to}
 use Rattle.strand_exec.specs.Memory.{extents_of}
 use Rattle.strand_exec.specs.Plan.{IsPlaced, asked, plan_of}
@@ -31,20 +32,23 @@ use Rattle.strand_queue.specs.declared.item.Item.{Item}
 use Rattle.strand_queue.specs.Queue.{Queue}
 use Rattle.strand_tags.specs.Access.{access, noted_as}
 use Rattle.strand_tags.specs.TagsSeen.{TagsSeen, CanAsk}
-use Rattle.strand_tags.specs.Traces.{core_persists}
+use Rattle.strand_tags.specs.Traces.{noted_wait}
+use Rattle.strand_tags.specs.declared.core_waits.CoreWaits.{CoreWaits}
+use Rattle.strand_events.specs.Prefixes.{core_persists}
 use Rattle.strand_cache.specs.Seen.{Seen}
 use Rattle.strand_machine.specs.Cached.{CacheStands}
-use Rattle.strand_machine.specs.Changed.{CanQueue, GoesThrough, Notes, with_made}
+use Rattle.strand_machine.specs.Changed.{CanQueue, GoesThrough, KeepsWait, Notes, with_made}
 use Rattle.strand_machine.specs.declared.machine.Machine.TheInside.{Inside}
 use Rattle.strand_machine.specs.KeptMachine.{IsHeld, seen}
 use Rattle.strand_machine.specs.Machine.{FitsCore, RingMachine}
-use Rattle.strand_machine.specs.Stand.{PartsSeen, Stand, newest_item, queue_at, tally_at}
+use Rattle.strand_machine.specs.Stand.{PartsSeen, Stand, Waiting, newest_item, queue_at, tally_at}
 use Rattle.strand_machine.proofs.Caching.{cache_after, retired_memory}
 use Rattle.strand_machine.proofs.Fronts.{Holds}
 use Rattle.strand_machine.proofs.Growth.{next_most}
-use Rattle.strand_machine.proofs.Held.{HasRooms, held_moved}
+use Rattle.strand_machine.proofs.Held.{HasRooms, held_moved, rooms_with}
 use Rattle.strand_machine.proofs.Queued.{queued_by_queue}
-use Rattle.strand_machine.proofs.NextEvent.{IsNext, made_of, made_tags, newest_is, own_asks, own_counts, own_stand, rooms_made}
+use Rattle.strand_machine.proofs.NextEvent.{IsNext, made_count, made_of, made_tags, made_waiting, newest_is, own_asks, own_counts, own_room, own_stand, own_waits_made, rooms_made}
+use Rattle.strand_machine.proofs.StandEvent.{with_waits}
 
 -- what a core that runs asks
 running_plan : (m : Machine) (n : ℕ) (effect : Effect) (request : Plan) → Runs m n effect → request ≡ asked effect → next_plan m.program m.state.now n ≡ Some request
@@ -158,7 +162,8 @@ module _ (r : RingMachine) (holds : Holds r) (n : ℕ) (next : next_event r.mach
         };
         control = holds.stand.control;
         tally_count = holds.stand.tally_count ∙ sym quiet_cores;
-        tallies = λ i lt. (let c = holds.stand.tallies i (omega (arith, lt, quiet_cores)) in record { numbers = c.numbers; first = c.first; strand = c.strand });
+        tallies = λ i lt. (let c = holds.stand.tallies i (omega (arith, lt, quiet_cores)) in record { numbers = c.numbers; first = c.first; strand = c.strand; waits = c.waits });
+        waits = holds.stand.waits;
         cache = subst (λ t. CacheStands r.machine.config (with_trace t) cache) same_trace cached;
       })
 
@@ -172,10 +177,10 @@ module _ (r : RingMachine) (n : ℕ) (e : Event) (is : IsNext r n e) (within : l
       let g = r.machine.config in
       let s = r.machine.state in
       let t = s.now.trace in
-      let must : Bool = must_wait g.mode (t ++ e ∷ []) (held s.durable) (length t) in
+      let waits : Bool = access_waits g.conflict g.mode t (held s.durable) e in
       let crowded : Bool = is_item g.mode e && (queued g s n == g.queue) in
-      let one = if_done (is_join e && join_waits g s n) causes.Join (if is_access e && must then Bubble causes.Conflict else if crowded then Bubble causes.Queue else Done) done in
-      let two = if_done (is_access e && must) causes.Conflict (if crowded then Bubble causes.Queue else Done) one.1 in
+      let one = if_done (is_join e && join_waits g s n) causes.Join (if waits then Bubble causes.Conflict else if crowded then Bubble causes.Queue else Done) done in
+      let two = if_done waits causes.Conflict (if crowded then Bubble causes.Queue else Done) one.1 in
       let three = if_done crowded causes.Queue Done two.1 in
       let ne : queued g s n ≡ g.queue → ⊥ = λ same. both_ways (queued g s n == g.queue) (so_not (is_item g.mode e) (queued g s n == g.queue) three.0 item) (eq-eqb (queued g s n) g.queue same) in
       let items : length (queue_at r.parts n).items ≡ queued g s n = ap (λ (q : Queue). length q.items) (is.holds.stand.queues n is.there) ∙ queued_by_queue g s n in
@@ -260,30 +265,67 @@ module _ (r : RingMachine) (n : ℕ) (e : Event) (cache : Seen) (parts : PartsSe
       (subst (λ (p : PartsSeen). slice_index parts.tags.made (core_of e) ≤ length (tally_at p (core_of e)).numbers) (sym parts_is)
       (subst (λ (tags : TagsSeen). slice_index tags.made (core_of e) ≤ length (tally_at with_own (core_of e)).numbers) (sym tags_is) (own_counts r e own_is)))
 
-  module _ (now : PartsSeen)
-      (noted : is_access e ≡ true → Notes parts.tags now.tags (noted_as (access n (tally_at parts n).strand (word_of e) (is_store e)) (length (tally_at parts n).numbers)))
-      (same : is_access e ≡ false → now.tags ≡ parts.tags) (others : now ≡ record parts { tags = now.tags }) where
-    own_noted : is_access e ≡ true → Notes r.parts.tags now.tags (noted_as (access (core_of e) (tally_at with_own (core_of e)).strand (word_of e) (is_store e)) (length (tally_at with_own (core_of e)).numbers))
-    own_noted yes_ = subst (λ tags. Notes tags now.tags (noted_as (access (core_of e) (tally_at with_own (core_of e)).strand (word_of e) (is_store e)) (length (tally_at with_own (core_of e)).numbers))) tags_is
-        (subst (λ (p : PartsSeen). Notes parts.tags now.tags (noted_as (access (core_of e) (tally_at p (core_of e)).strand (word_of e) (is_store e)) (length (tally_at p (core_of e)).numbers))) parts_is
-        (subst (λ n. Notes parts.tags now.tags (noted_as (access n (tally_at parts n).strand (word_of e) (is_store e)) (length (tally_at parts n).numbers))) (sym own) (noted yes_)))
+  module _ (noted : PartsSeen) (wait : List ℕ)
+      (notes : is_access e ≡ true → Notes parts.tags noted.tags (noted_as (access n (tally_at parts n).strand (word_of e) (is_store e)) (length (tally_at parts n).numbers) wait))
+      (same : is_access e ≡ false → noted.tags ≡ parts.tags) (others : noted ≡ record parts { tags = noted.tags }) where
+    own_noted : is_access e ≡ true → Notes r.parts.tags noted.tags (noted_as (access (core_of e) (tally_at with_own (core_of e)).strand (word_of e) (is_store e)) (length (tally_at with_own (core_of e)).numbers) wait)
+    own_noted yes_ = subst (λ tags. Notes tags noted.tags (noted_as (access (core_of e) (tally_at with_own (core_of e)).strand (word_of e) (is_store e)) (length (tally_at with_own (core_of e)).numbers) wait)) tags_is
+        (subst (λ (p : PartsSeen). Notes parts.tags noted.tags (noted_as (access (core_of e) (tally_at p (core_of e)).strand (word_of e) (is_store e)) (length (tally_at p (core_of e)).numbers) wait)) parts_is
+        (subst (λ n. Notes parts.tags noted.tags (noted_as (access n (tally_at parts n).strand (word_of e) (is_store e)) (length (tally_at parts n).numbers) wait)) (sym own) (notes yes_)))
 
-    now_is : now ≡ record with_own { tags = now.tags }
-    now_is = others ∙ ap (λ (p : PartsSeen). record p { tags = now.tags }) parts_is
+    abbrev with_noted : PartsSeen
+    with_noted = record with_own { tags = noted.tags }
 
-    pub cache_is : now.cache ≡ cache
-    cache_is = ap (λ (p : PartsSeen). p.cache) now_is
+    noted_is : noted ≡ with_noted
+    noted_is = others ∙ ap (λ (p : PartsSeen). record p { tags = noted.tags }) parts_is
 
-    abbrev after_ : State
-    after_ = core_after r.machine.program r.machine.state n (Some e)
+    waiting_is : noted.waiting ≡ r.parts.waiting
+    waiting_is = ap (λ (p : PartsSeen). p.waiting) noted_is ∙ made_waiting r.parts (core_of e) made_item
 
-    -- what the fields keep
-    pub held_retired : (p : Machine) → with_memory cache.memory p ≡ made_to r.machine after_ → IsReached r.machine.config r.machine.program after_ → extents_of cache.memory ≡ r.machine.program.sizes
-        → IsHeld (record { pipeline = p; parts = now })
-    held_retired p moved reached extents =
-        let holds = queued.next.holds in
-        let count = retired_cores r.machine.program r.machine.state.now n in
-        held_moved r after_ p now (record with_own { tags = now.tags }) (ap (λ (q : PartsSeen). with_memory q.cache.memory p) now_is ∙ moved) now_is
-        (subst (λ n. Stand r.machine.config r.machine.program.sizes (core_after r.machine.program r.machine.state n (Some e)) (record with_own { tags = now.tags })) own
-        (own_stand r e own_is now.tags own_noted (λ no_. same no_ ∙ tags_is) cache (subst (λ n. CacheStands r.machine.config (core_after r.machine.program r.machine.state n (Some e)) cache) (sym own) queued.cached)))
-        (rooms_made (made_to r.machine after_) r.parts (core_of e) made_item (holds.stand.tally_count ∙ sym count) (λ i lt. holds.rooms i (omega (arith, lt, count)))) reached extents
+    -- its wait can be kept
+    pub has_room : r.machine.made < r.machine.steps → length noted.waiting.waits < noted.waiting.room
+    has_room room = subst (λ (w : Waiting). length w.waits < w.room) (sym waiting_is) (own_room r e own_is room)
+
+    pub can_follow : r.machine.made < r.machine.steps → r.machine.config.conflict ≡ Tag → (tally_at noted n).waits.made < 2 ^ 32 - 1
+    can_follow room tag = subst (λ n. (tally_at noted n).waits.made < 2 ^ 32 - 1) own
+        (subst (λ (p : PartsSeen). (tally_at p (core_of e)).waits.made < 2 ^ 32 - 1) (sym noted_is) (own_waits_made r e own_is room tag))
+
+    module _ (now : PartsSeen) (keeps : KeepsWait r.machine.config noted now n e wait) (rest : now ≡ record noted { waiting = now.waiting; tallies = now.tallies }) where
+      own_keeps : KeepsWait r.machine.config with_noted now (core_of e) e wait
+      own_keeps = subst (λ p. KeepsWait r.machine.config p now (core_of e) e wait) noted_is (subst (λ n. KeepsWait r.machine.config noted now n e wait) (sym own) keeps)
+
+      abbrev waits : CoreWaits
+      waits = (tally_at now (core_of e)).waits
+
+      now_is : now ≡ with_waits with_noted (core_of e) waits now.waiting
+      now_is = rest ∙ ap (λ (p : PartsSeen). record p { waiting = now.waiting; tallies = now.tallies }) noted_is ∙ ap (λ ts. record with_noted { waiting = now.waiting; tallies = ts }) own_keeps.tallies
+
+      pub cache_is : now.cache ≡ cache
+      cache_is = ap (λ (p : PartsSeen). p.cache) now_is
+
+      kept_waits : now.waiting.waits ≡ (if is_persist e then r.parts.waiting.waits ++ wait ∷ [] else r.parts.waiting.waits)
+      kept_waits = ap (λ (w : Waiting). w.waits) own_keeps.waiting ∙ ap (λ (w : Waiting). if is_persist e then w.waits ++ wait ∷ [] else w.waits) (made_waiting r.parts (core_of e) made_item)
+
+      kept_room : now.waiting.room ≡ r.machine.steps
+      kept_room = ap (λ (w : Waiting). w.room) own_keeps.waiting ∙ ap (λ (w : Waiting). w.room) (made_waiting r.parts (core_of e) made_item) ∙ queued.next.holds.wait_room
+
+      abbrev after_ : State
+      after_ = core_after r.machine.program r.machine.state n (Some e)
+
+      rooms_after : HasRooms (made_to r.machine after_) (with_waits with_noted (core_of e) waits now.waiting)
+      rooms_after =
+          let holds = queued.next.holds in
+          let count : length r.parts.tallies ≡ length after_.now.cores = holds.stand.tally_count ∙ sym (retired_cores r.machine.program r.machine.state.now n) in
+          rooms_with (made_to r.machine after_) (with_made r.parts (core_of e) made_item) (core_of e) _ (made_count r.parts (core_of e) made_item ∙ count) refl
+          (rooms_made (made_to r.machine after_) r.parts (core_of e) made_item count (λ i lt. holds.rooms i (omega (arith, lt, count, holds.stand.tally_count))))
+
+      -- what the fields keep
+      pub held_retired : wait ≡ noted_wait r.machine.config.conflict r.machine.config.mode (r.machine.state.now.trace ++ e ∷ []) (length r.machine.state.now.trace)
+          → (p : Machine) → with_memory cache.memory p ≡ made_to r.machine after_ → IsReached r.machine.config r.machine.program after_ → extents_of cache.memory ≡ r.machine.program.sizes
+          → IsHeld (record { pipeline = p; parts = now })
+      held_retired wait_is p moved reached extents =
+          held_moved r after_ p now (with_waits with_noted (core_of e) waits now.waiting) (ap (λ (q : PartsSeen). with_memory q.cache.memory p) now_is ∙ moved) now_is
+          (subst (λ n. Stand r.machine.config r.machine.program.sizes (core_after r.machine.program r.machine.state n (Some e)) (with_waits with_noted (core_of e) waits now.waiting)) own
+          (own_stand r e own_is noted.tags wait wait_is own_noted (λ no_. same no_ ∙ tags_is) cache
+          (subst (λ n. CacheStands r.machine.config (core_after r.machine.program r.machine.state n (Some e)) cache) (sym own) queued.cached) waits now.waiting kept_waits own_keeps.own))
+          rooms_after kept_room reached extents

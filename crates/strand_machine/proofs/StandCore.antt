@@ -25,7 +25,8 @@ use Rattle.strand_inputs.specs.declared.mode.Mode.{Mode}
 use Rattle.strand_inputs.specs.declared.mode.Mode.TheVariants.{Strict, Epoch, Strand}
 use Rattle.strand_tags.specs.Access.{Noted, noted_as}
 use Rattle.strand_tags.specs.TagsSeen.{TagsSeen, StandFor, CanAsk}
-use Rattle.strand_tags.specs.Traces.{made_below, noted_accesses}
+use Rattle.strand_events.specs.Prefixes.{made_below}
+use Rattle.strand_tags.specs.Traces.{noted_accesses, noted_wait}
 use Rattle.strand_machine.proofs.Standing.{at_set, at_other}
 use Rattle.strand_rules.proofs.Next.{core_new, number_new}
 use Rattle.strand_tags.proofs.Longer.{list_grown, other_unnoted}
@@ -158,7 +159,7 @@ module _ (g : Settings) (s : State) (e : Event) (cs : List cores.Core) (memory :
     tags_same no_ = record {
       extents = stand.extents;
       cores = stand.cores ∙ sym same_cores;
-      accesses = subst (StandFor tags) (sym (other_unnoted t e g.mode no_)) stand.accesses;
+      accesses = subst (StandFor tags) (sym (other_unnoted t e g.conflict g.mode no_)) stand.accesses;
       strands = λ n lt. stand.strands n (omega (arith, lt, same_cores)) ∙ ap (λ o. unwrap_or o 0) (sym (strand_longer n (rw no_ refl)));
       made = λ n lt. stand.made n (omega (arith, lt, same_cores)) ∙ ap (λ o. unwrap_or o 0) (sym (counts_longer n (rw no_ refl)));
     }
@@ -169,11 +170,11 @@ module _ (g : Settings) (s : State) (e : Event) (cs : List cores.Core) (memory :
     -- an access that is noted: this is what the call of the tags leaves
     pub tags_noted : (tags' : TagsSeen) → is_access e ≡ true → core_of e < length s.now.cores → tags'.extents ≡ tags.extents
         → tags'.strands ≡ slice_set tags.strands (core_of e) (next_strand g.mode t (core_of e)) → tags'.made ≡ slice_set tags.made (core_of e) own_made → length tags.made ≡ length tags.strands
-        → ((ns : List Noted) → StandFor tags ns → StandFor tags' (ns ++ noted_as (next_access g.mode t e) own_made ∷ [])) → TagsStand g x longer tags'
+        → ((ns : List Noted) → StandFor tags ns → StandFor tags' (ns ++ noted_as (next_access g.mode t e) own_made (noted_wait g.conflict g.mode (t ++ e ∷ []) (length t)) ∷ [])) → TagsStand g x longer tags'
     tags_noted tags' is there extents strands made size noted = record {
       extents = extents ∙ stand.extents;
       cores = ap length strands ∙ length-set tags.strands (core_of e) (next_strand g.mode t (core_of e)) ∙ stand.cores ∙ sym same_cores;
-      accesses = subst (StandFor tags') (sym (noted_grown t e g.mode is)) (noted (noted_accesses g.mode t) stand.accesses);
+      accesses = subst (StandFor tags') (sym (noted_grown t e g.conflict g.mode is)) (noted (noted_accesses g.conflict g.mode t) stand.accesses);
       strands = λ n lt. ap (λ xs. slice_index xs n) strands ∙ (elim (cases_eq n (core_of e)) [
         | inl same ↦
             ap (slice_index (slice_set tags.strands (core_of e) (next_strand g.mode t (core_of e)))) same

@@ -1,16 +1,18 @@
 -- The parts stand for the state after a dispatch.
-use Rattle.std.proofs.Common.{◌≡◌, ℕ, ◌+◌, ◌<◌, ◌≤◌, Bool, true, false, ◌&&◌, inl, inr, [], ◌∷◌, ◌++◌, length, refl, sym, ap, subst, ◌∙◌, arith}
-use Rattle.std.specs.Prelude.{◌==◌, nat_lt, drop, slice_set, slice_index_or, Some, None, MatchOption}
+use Rattle.std.proofs.Common.{◌≡◌, ℕ, ◌+◌, ◌<◌, ◌≤◌, Bool, true, false, ◌&&◌, inl, inr, List, [], ◌∷◌, ◌++◌, length, refl, sym, ap, subst, ◌∙◌, arith}
+use Rattle.std.specs.Prelude.{◌==◌, nat_lt, drop, slice_get, slice_set, slice_index_or, Some, None, MatchOption}
 use Rattle.std.specs.Option.{option_map}
 use Rattle.std.specs.declared.option.Option.{Option}
 use Rattle.std.proofs.lemmas.Bool.{cases_Bool, cases_eq, and_parts, and_from, eqb-true, eq-eqb, lt-ltb, le-ltb, false_from_ne_true}
 use Rattle.std.proofs.lemmas.List.{length-set, length-map}
 use Rattle.std.proofs.lemmas.Nat.{mod_below}
+use Rattle.std.proofs.lemmas.Option.{slice_get-map, slice_get-get_or, slice_get_within, same_Some}
 use Rattle.strand_base.specs.Counting.{count_below}
 use Rattle.strand_base.proofs.Counting.{count_agree, count_strict}
+use Rattle.strand_base.proofs.Finding.{list_at}
 use Rattle.strand_exec.specs.Core.{Extents}
 use Rattle.strand_inputs.specs.Settings.{Settings}
-use Rattle.strand_events.specs.Trace.{is_persist, is_barrier, is_new_strand, core_at, word_at, value_at, event_is, core_event_is, strand_number, epoch}
+use Rattle.strand_events.specs.Trace.{is_persist, is_barrier, is_new_strand, core_at, word_at, value_at, event_is, core_event_is, strand_number, epoch, persists_of}
 use Rattle.strand_events.proofs.Epochs.{epochs_rise, strand_from}
 use Rattle.strand_rules.specs.Cycle.{State, is_item, gone, front, is_dispatched, is_accepted, buffer_of, item_after, ring_use}
 use Rattle.strand_rules.specs.Parts.{AreParts}
@@ -23,8 +25,9 @@ use Rattle.strand_buffer.specs.Buffers as buffers
 use Rattle.strand_buffer.specs.Buffers.{Buffers, list_in, current, has_room, accepted}
 use Rattle.strand_queue.specs.Queue.{Queue, queue}
 use Rattle.strand_machine.specs.Lists.{persist_number, entries, listed, entry_of, begun}
-use Rattle.strand_machine.specs.Changed.{taken, with_dispatched}
-use Rattle.strand_machine.specs.Stand.{BuffersStand, PartsSeen, Stand, Tally, TallyStands, no_buffers, no_queue, queue_at, buffers_at, tally_at, item_of, queue_items, last_below, last_number, last_epoch}
+use Rattle.strand_tags.specs.Traces.{noted_wait}
+use Rattle.strand_machine.specs.Changed.{taken, wait_at, with_dispatched}
+use Rattle.strand_machine.specs.Stand.{BuffersStand, PartsSeen, Stand, Tally, TallyStands, no_buffers, no_queue, queue_at, buffers_at, tally_at, item_of, queue_items, last_below, last_number, last_epoch, persist_waits}
 use Rattle.strand_machine.proofs.Caching.{cache_kept}
 use Rattle.strand_machine.proofs.Room.{numbers_rise, k_core, accepted_core, accepted_earlier, ring_by_list, begun_by_front}
 use Rattle.strand_rules.proofs.RingItem.{accepted_other, accepted_apart, below_same, one_more}
@@ -172,9 +175,9 @@ module _ (g : Settings) (s : State) (n k : ℕ) (first : front g s n ≡ Some k)
 
   -- a persist is accepted by the buffers
   buffers_accepted : (bs : Buffers) → AreParts g s → 0 < g.buffers → event_is is_persist s.now.trace k ≡ true → event_is is_new_strand s.now.trace k ≡ false → k < length s.buffered → BuffersStand g s n bs
-      → BuffersStand g then_ n (accepted bs (persist_number s.now.trace k) (word_at s.now.trace k) (value_at s.now.trace k) (epoch g.mode s.now.trace k))
+      → BuffersStand g then_ n (accepted bs (persist_number s.now.trace k) (word_at s.now.trace k) (value_at s.now.trace k) (epoch g.mode s.now.trace k) (noted_wait g.conflict g.mode s.now.trace k))
   buffers_accepted bs parts some is none inside stand =
-      let entry : Entry = record { number = persist_number s.now.trace k; word = word_at s.now.trace k; value = value_at s.now.trace k; epoch = epoch g.mode s.now.trace k; stage = Buffered } in
+      let entry : Entry = record { number = persist_number s.now.trace k; word = word_at s.now.trace k; value = value_at s.now.trace k; epoch = epoch g.mode s.now.trace k; wait = noted_wait g.conflict g.mode s.now.trace k; stage = Buffered } in
       let b : ℕ = buffer_of g strand in
       let at : current bs ≡ b = cc (stand.strand, begun_by_front g s n k first, stand.buffers) in
       let lt : b < g.buffers = mod_below strand g.buffers some in
@@ -198,7 +201,7 @@ module _ (g : Settings) (s : State) (n k : ℕ) (first : front g s n ≡ Some k)
       }
 
   tally_same : (i : ℕ) (c : Tally) → TallyStands g s i c → TallyStands g then_ i c
-  tally_same i c stand = record { numbers = stand.numbers; first = stand.first; strand = stand.strand }
+  tally_same i c stand = record { numbers = stand.numbers; first = stand.first; strand = stand.strand; waits = stand.waits }
 
   module _ (x : Extents) (m : PartsSeen) (stand : Stand g x s m) (core : n < length s.now.cores) where
     abbrev popped : Queue
@@ -224,21 +227,33 @@ module _ (g : Settings) (s : State) (n k : ℕ) (first : front g s n ≡ Some k)
       control = stand.control;
       tally_count = stand.tally_count;
       tallies = λ i lt. tally_same i (tally_at m i) (stand.tallies i lt);
+      waits = stand.waits;
       cache = cache_kept g s then_ m.cache m.cache stand.cache refl refl refl refl;
     }
 
-    buffers_taken : AreParts g s → 0 < g.buffers → event_is (is_item g.mode) s.now.trace k ≡ true → k < length s.buffered → BuffersStand g then_ n (taken (buffers_at m n) (item_of g s k))
+    -- the wait that is kept of it, where it is a persist
+    wait_kept : event_is is_persist s.now.trace k ≡ true → slice_index_or m.waiting.waits (persist_number s.now.trace k) [] ≡ noted_wait g.conflict g.mode s.now.trace k
+    wait_kept is =
+        let t = s.now.trace in
+        let number : ℕ = persist_number t k in
+        let wait : List ℕ = noted_wait g.conflict g.mode t k in
+        let at : slice_get (persist_waits g t) number ≡ Some wait = slice_get-map (noted_wait g.conflict g.mode t) (persists_of t) number ∙ ap (option_map (noted_wait g.conflict g.mode t)) (list_at (length t) (event_is is_persist t) k ((found g s n k first).0) is) in
+        ap (λ waits. slice_index_or waits number []) stand.waits
+        ∙ same_Some (slice_index_or (persist_waits g t) number []) wait (sym (slice_get-get_or (persist_waits g t) number [] (slice_get_within (persist_waits g t) number wait at)) ∙ at)
+
+    buffers_taken : AreParts g s → 0 < g.buffers → event_is (is_item g.mode) s.now.trace k ≡ true → k < length s.buffered → BuffersStand g then_ n (taken (buffers_at m n) (item_of g s k) (wait_at m (item_of g s k)))
     buffers_taken parts some item inside =
         let t = s.now.trace in
         let own : Buffers = buffers_at m n in
         elim (cases_Bool (event_is is_persist t k)) [
-          | inl is ↦ subst (λ i. BuffersStand g then_ n (taken own i)) (sym (item_persist g s k is)) (buffers_accepted own parts some is (event_persist_begins t k is) inside (stand.buffers n core))
+          | inl is ↦ subst (λ i. BuffersStand g then_ n (taken own i (wait_at m i))) (sym (item_persist g s k is))
+              (subst (λ w. BuffersStand g then_ n (accepted own (persist_number t k) (word_at t k) (value_at t k) (epoch g.mode t k) w)) (sym (wait_kept is)) (buffers_accepted own parts some is (event_persist_begins t k is) inside (stand.buffers n core)))
           | inr no_ ↦ elim (cases_Bool (event_is is_barrier t k)) [
-            | inl is ↦ subst (λ i. BuffersStand g then_ n (taken own i)) (sym (item_barrier g s k no_ is)) (buffers_item own no_ (event_barrier_begins t k is) (stand.buffers n core))
-            | inr none ↦ subst (λ i. BuffersStand g then_ n (taken own i)) (sym (item_begin g s k no_ none)) (buffers_begun own no_ (event_item_begins g.mode t k item no_ none) (stand.buffers n core))
+            | inl is ↦ subst (λ i. BuffersStand g then_ n (taken own i (wait_at m i))) (sym (item_barrier g s k no_ is)) (buffers_item own no_ (event_barrier_begins t k is) (stand.buffers n core))
+            | inr none ↦ subst (λ i. BuffersStand g then_ n (taken own i (wait_at m i))) (sym (item_begin g s k no_ none)) (buffers_begun own no_ (event_item_begins g.mode t k item no_ none) (stand.buffers n core))
           ]
         ]
 
     -- the parts after a dispatch of the first item of the queue
     pub stand_dispatched : AreParts g s → 0 < g.buffers → k < length s.buffered → Stand g x then_ (with_dispatched m n (item_of g s k))
-    stand_dispatched parts some inside = stand_with (taken (buffers_at m n) (item_of g s k)) (buffers_taken parts some (and_parts (event_is (is_item g.mode) s.now.trace k) (core_at s.now.trace k == n) (found g s n k first).1).0 inside)
+    stand_dispatched parts some inside = stand_with (taken (buffers_at m n) (item_of g s k) (wait_at m (item_of g s k))) (buffers_taken parts some (and_parts (event_is (is_item g.mode) s.now.trace k) (core_at s.now.trace k == n) (found g s n k first).1).0 inside)

@@ -19,6 +19,7 @@ use Rattle.strand_rules.specs.Looking.{next_strand}
 use Rattle.strand_buffer.specs.Buffers.{empty_buffers}
 use Rattle.strand_queue.specs.Queue.{queue}
 use Rattle.strand_tags.specs.TagsSeen.{TagsSeen, StandFor}
+use Rattle.strand_tags.specs.Entries.{KeepsWaits, no_waits}
 use Rattle.strand_machine.specs.Changed.{empty_tally, start_parts}
 use Rattle.strand_machine.specs.Stand.{item_of, BuffersStand, Tally, TallyStands, PartsSeen, Stand, no_queue, no_buffers, no_tally, tally_at}
 
@@ -40,6 +41,10 @@ next_none : (mode : Mode) (n : ℕ) → next_strand mode [] n ≡ 0
 next_none Strict n = refl
 next_none Epoch n = refl
 next_none Strand n = refl
+
+-- a core that has made nothing keeps no waits
+keeps_none : (mode : Mode) (n : ℕ) → KeepsWaits mode [] n no_waits
+keeps_none mode n c lt = let none : slice_index (replicate 8 0) c ≡ 0 = zero_at 8 c in cc none
 
 -- they stand for the state before the first step
 pub stand_start : (g : Settings) (x : Extents) (cs : List cores.Core) (memory : Memory) (room : ℕ) (tags : TagsSeen) → tags.extents ≡ x → tags.strands ≡ replicate (length cs) 0 → tags.made ≡ replicate (length cs) 0 → StandFor tags []
@@ -67,7 +72,8 @@ stand_start g x cs memory room tags extents strands made stand cached =
       };
       control = refl;
       tally_count = length-replicate (length cs) (empty_tally room);
-      tallies = λ n lt. subst (TallyStands g s n) (sym (get_or-replicate (length cs) n (empty_tally room) no_tally lt)) (record { numbers = refl; first = refl; strand = sym (next_none g.mode n) });
+      tallies = λ n lt. subst (TallyStands g s n) (sym (get_or-replicate (length cs) n (empty_tally room) no_tally lt)) (record { numbers = refl; first = refl; strand = sym (next_none g.mode n); waits = λ _. keeps_none g.mode n });
+      waits = refl;
       cache = cache_start g cs memory cached;
     }
 
@@ -84,6 +90,9 @@ module _ (g : Settings) (image : Parts) (steps : ℕ) (m : Machine) (parts : Par
       subst (λ m. Stands m parts) (sym is) (subst (Stands (machine_at g image steps)) (sym now_is)
       (stand_start g (program_of image).sizes (map fresh image.entries) (start_of image).now.memory steps parts.tags extents
       (strands ∙ ap (λ n. replicate n 0) (sym cores_are)) (made ∙ ap (λ n. replicate n 0) (sym cores_are)) noted (subst (λ (p : PartsSeen). CachesStand p.cache []) now_is cached)))
+
+  pub wait_room_new : parts.waiting.room ≡ m.steps
+  wait_room_new = ap (λ (p : PartsSeen). p.waiting.room) now ∙ sym (ap (λ (m : Machine). m.steps) is)
 
   pub rooms_new : HasRooms m parts
   rooms_new n lt =

@@ -17,7 +17,7 @@ use Rattle.strand_buffer.specs.declared.entry.Stage.TheVariants.{Buffered, Sent,
 use Rattle.strand_buffer.specs.Entries.{trimmed}
 use Rattle.strand_buffer.specs.Buffers.{Buffers, list_in, with_stage, sent, released}
 use Rattle.strand_control.specs.Flight.{Flight}
-use Rattle.strand_tags.specs.Traces.{leading}
+use Rattle.strand_events.specs.Prefixes.{leading}
 use Rattle.strand_machine.specs.Lists.{persist_number, is_of_buffer, listed, entry_of, entries}
 use Rattle.strand_machine.specs.Changed.{advanced, with_sent, with_written}
 use Rattle.strand_machine.specs.Stand.{request_at, Tally, BuffersStand, TallyStands, PartsSeen, Stand, no_buffers, no_tally, buffers_at, tally_at}
@@ -118,10 +118,11 @@ module _ (g : Settings) (s : State) (p : ℕ) where
       numbers = stand.numbers;
       first = ap (λ ns. leading (map (held (durable_persists (write_after s j (Some p)))) ns)) stand.numbers ∙ first_by_marks s.now.trace (held (slice_set s.durable p true)) c;
       strand = stand.strand;
+      waits = stand.waits;
     }
 
     tally_unwritten : (j n : ℕ) (c' : Tally) → (n ≡ c → ⊥) → TallyStands g s n c' → TallyStands g (write_after s j (Some p)) n c'
-    tally_unwritten j n c' ne stand = record { numbers = stand.numbers; first = stand.first ∙ sym (first_apart s.now.trace s.durable p n (λ e. ne (sym e))); strand = stand.strand }
+    tally_unwritten j n c' ne stand = record { numbers = stand.numbers; first = stand.first ∙ sym (first_apart s.now.trace s.durable p n (λ e. ne (sym e))); strand = stand.strand; waits = stand.waits }
 
     module _ (x : Extents) (m : PartsSeen) (stand : Stand g x s m) (core : c < length s.now.cores) (buffer : b < g.buffers) where
       abbrev own : Buffers
@@ -141,7 +142,8 @@ module _ (g : Settings) (s : State) (p : ℕ) where
         tags = record { extents = stand.tags.extents; cores = stand.tags.cores; accesses = stand.tags.accesses; strands = stand.tags.strands; made = stand.tags.made };
         control = ap (λ (f : Flight). record f { requests = f.requests ++ request_at g s p ∷ [] }) stand.control ∙ ap (λ rs. record { requests = rs; limit = g.flight }) (sym (requests_sent g s p));
         tally_count = stand.tally_count;
-        tallies = λ n lt. (let own_ = stand.tallies n lt in record { numbers = own_.numbers; first = own_.first; strand = own_.strand });
+        tallies = λ n lt. (let own_ = stand.tallies n lt in record { numbers = own_.numbers; first = own_.first; strand = own_.strand; waits = own_.waits });
+        waits = stand.waits;
         cache = cache_kept g s (send_after s (Some p)) m.cache m.cache stand.cache refl refl refl refl;
       }
 
@@ -167,5 +169,6 @@ module _ (g : Settings) (s : State) (p : ℕ) where
                   (subst (TallyStands g (write_after s j (Some p)) c) (sym (at_set m.tallies c (advanced (tally_at m c) after_) no_tally (omega (arith, core, stand.tally_count)))) (tally_written j (tally_at m c) (stand.tallies c core)))
               | inr ne ↦ subst (TallyStands g (write_after s j (Some p)) n) (sym (at_other m.tallies c n (advanced (tally_at m c) after_) no_tally ne)) (tally_unwritten j n (tally_at m n) ne (stand.tallies n lt))
             ];
+            waits = stand.waits;
             cache = cache_kept g s (write_after s j (Some p)) m.cache m.cache stand.cache refl refl refl refl;
           }

@@ -1,11 +1,16 @@
 -- What the steps make of the parts.
-use Rattle.std.specs.Prelude.{◌≡◌, ℕ, ◌+◌, ◌-◌, ◌^◌, ◌<◌, ◌≤◌, Bool, true, false, List, [], ◌∷◌, ◌++◌, drop, length, map, replicate, slice_set, Some, None, MatchOption}
+use Rattle.std.specs.Prelude.{◌≡◌, ℕ, ◌+◌, ◌-◌, ◌^◌, ◌<◌, ◌≤◌, Bool, true, false, List, [], ◌∷◌, ◌++◌, drop, length, map, replicate, slice_index, slice_index_or, slice_set, if◌then◌else◌, Some, None, MatchOption}
 use Rattle.std.specs.declared.option.Option.{Option}
 use Rattle.strand_inputs.specs.Settings.{Settings}
 use Rattle.strand_exec.specs.Memory.{Memory}
 use Rattle.strand_exec.specs.declared.planned.Plan.{Plan}
 use Rattle.strand_exec.specs.declared.planned.Plan.TheVariants.{Load, Store}
+use Rattle.strand_inputs.specs.declared.conflict.Conflict.TheVariants.{Tag}
+use Rattle.strand_events.specs.declared.event.Event.{Event}
+use Rattle.strand_events.specs.Trace.{is_persist}
 use Rattle.strand_events.specs.Order.{held}
+use Rattle.strand_events.specs.Prefixes.{leading}
+use Rattle.strand_events.specs.Vectors.{waits_after}
 use Rattle.strand_queue.specs.declared.item.Item.{Item}
 use Rattle.strand_queue.specs.declared.item.Item.TheVariants.{Persist, Barrier, NewStrand}
 use Rattle.strand_queue.specs.Queue.{Queue, queue}
@@ -13,16 +18,17 @@ use Rattle.strand_buffer.specs.Buffers.{Buffers, accepted, begun, can_begin, emp
 use Rattle.strand_control.specs.declared.request.Request.{Request}
 use Rattle.strand_tags.specs.Access.{Noted}
 use Rattle.strand_tags.specs.TagsSeen.{TagsSeen, StandFor}
-use Rattle.strand_tags.specs.Traces.{leading}
+use Rattle.strand_tags.specs.Entries.{wait_entry, no_waits}
 use Rattle.strand_cache.specs.declared.change.Change.{Change}
 use Rattle.strand_cache.specs.declared.change.Change.TheVariants.{Read, Merge}
 use Rattle.strand_cache.specs.Changes.{memory_after}
 use Rattle.strand_cache.specs.Seen.{Seen, IsAccess, counted, counts_seen, empty_caches, shape_seen}
+use Rattle.strand_events.specs.Waits.{each_core}
 use Rattle.strand_machine.specs.Stand.{PartsSeen, Tally, queue_at, buffers_at, tally_at}
 
 -- nothing is counted yet, with room for so many persists
 abbrev pub empty_tally : ℕ → Tally
-empty_tally room = record { numbers = []; first = 0; strand = 0; room = room }
+empty_tally room = record { numbers = []; first = 0; strand = 0; waits = no_waits; room = room }
 
 -- the parts that were just made, of so many cores over a memory, with room for so many persists a core
 abbrev pub start_parts : Settings → ℕ → Memory → ℕ → TagsSeen → PartsSeen
@@ -32,6 +38,7 @@ start_parts g count memory room tags = record {
   tags = tags;
   control = record { requests = []; limit = g.flight };
   tallies = replicate count (empty_tally room);
+  waiting = record { waits = []; room = room };
   cache = empty_caches count g.sets g.ways memory.volatile memory.persistent;
 }
 
@@ -79,6 +86,12 @@ pub record Notes (old new : TagsSeen) (n : Noted) : Type 0 where
   pub cores : length new.made ≡ length new.strands
   pub stands : (ns : List Noted) → StandFor old ns → StandFor new (ns ++ n ∷ [])
 
+-- what core n's event with this wait makes of the waits that are kept: that of a persist comes to the end, and under tag the core's follow the event
+pub record KeepsWait (g : Settings) (old new : PartsSeen) (n : ℕ) (e : Event) (wait : List ℕ) : Type 0 where
+  pub waiting : new.waiting ≡ record old.waiting { waits = if is_persist e then old.waiting.waits ++ wait ∷ [] else old.waiting.waits }
+  pub tallies : new.tallies ≡ slice_set old.tallies n (record (tally_at old n) { waits = (tally_at new n).waits })
+  pub own : g.conflict ≡ Tag → (c : ℕ) → c < 8 → wait_entry (tally_at new n).waits c ≡ waits_after g.mode e (slice_index wait c) (wait_entry (tally_at old n).waits c)
+
 -- what an access of core n to a word makes of the caches
 pub record IsCached (old new : Seen) (n word : ℕ) (change : Change) : Type 0 where
   pub hits : Bool
@@ -101,16 +114,28 @@ CanTake bs Barrier = Unit {0}
 CanTake bs NewStrand = (can_begin bs ≡ true) × (bs.strand < 2 ^ 32 - 1)
 
 -- what the buffers make of a dispatched item
-abbrev pub taken : Buffers → Item → Buffers
-taken bs (Persist number word value epoch) = accepted bs number word value epoch
-taken bs Barrier = bs
-taken bs NewStrand = begun bs
+abbrev pub taken : Buffers → Item → List ℕ → Buffers
+taken bs (Persist number word value epoch) wait = accepted bs number word value epoch wait
+taken bs Barrier wait = bs
+taken bs NewStrand wait = begun bs
+
+-- the wait that is kept of an item, where it is a persist
+abbrev pub wait_at : PartsSeen → Item → List ℕ
+wait_at m (Persist number word value epoch) = slice_index_or m.waiting.waits number []
+wait_at m Barrier = each_core (λ c. 0)
+wait_at m NewStrand = each_core (λ c. 0)
+
+-- the item's wait is kept, where it is a persist
+abbrev pub HasWait : PartsSeen → Item → Type 0
+HasWait m (Persist number word value epoch) = number < length m.waiting.waits
+HasWait m Barrier = Unit {0}
+HasWait m NewStrand = Unit {0}
 
 -- core n dispatched the first item of its queue
 abbrev pub with_dispatched : PartsSeen → ℕ → Item → PartsSeen
 with_dispatched m n item = record m {
   queues = slice_set m.queues n (queue (drop 1 (queue_at m n).items) (queue_at m n).depth);
-  buffers = slice_set m.buffers n (taken (buffers_at m n) item);
+  buffers = slice_set m.buffers n (taken (buffers_at m n) item (wait_at m item));
 }
 
 -- a buffer's persist was sent

@@ -3,4 +3,4 @@ use Rattle.strand_machine.specs.declared.parts.Parts.TheInside.{Inside}
 use Rattle.strand_machine.specs.Stand.{PartsSeen}
 
 abbrev pub parts_of : Inside → PartsSeen
-parts_of p = record { queues = p.queues.items; buffers = p.buffers.items; tags = p.tags; control = p.control; tallies = p.tallies.items; cache = p.cache }
+parts_of p = record { queues = p.queues.items; buffers = p.buffers.items; tags = p.tags; control = p.control; tallies = p.tallies.items; waiting = p.waiting; cache = p.cache }

@@ -3,4 +3,4 @@ use Rattle.strand_machine.specs.declared.tally.CoreTally.TheInside.{Inside}
 use Rattle.strand_machine.specs.Stand.{Tally}
 
 abbrev pub tally_of : Inside → Tally
-tally_of c = record { numbers = c.numbers.items; first = c.first; strand = c.strand; room = c.room }
+tally_of c = record { numbers = c.numbers.items; first = c.first; strand = c.strand; waits = c.waits; room = c.room }

@@ -4,5 +4,6 @@ pub mod Stand
 pub mod Changed
 pub mod Machine
 pub mod KeptTally
+pub mod KeptWaiting
 pub mod KeptParts
 pub mod KeptMachine

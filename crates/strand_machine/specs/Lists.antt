@@ -10,6 +10,7 @@ use Rattle.strand_buffer.specs.declared.entry.Entry.{Entry}
 use Rattle.strand_buffer.specs.declared.entry.Stage.{Stage}
 use Rattle.strand_buffer.specs.declared.entry.Stage.TheVariants.{Buffered, Sent, Released}
 use Rattle.strand_buffer.specs.Entries.{from_open}
+use Rattle.strand_tags.specs.Traces.{noted_wait}
 
 -- event p's number among the persists
 abbrev pub persist_number : List Event → ℕ → ℕ
@@ -28,7 +29,7 @@ abbrev pub stage_of : State → ℕ → Stage
 stage_of s p = if held s.durable p then Released else if held s.buffered p then Buffered else Sent
 
 abbrev pub entry_of : Settings → State → ℕ → Entry
-entry_of g s p = record { number = persist_number s.now.trace p; word = word_at s.now.trace p; value = value_at s.now.trace p; epoch = epoch g.mode s.now.trace p; stage = stage_of s p }
+entry_of g s p = record { number = persist_number s.now.trace p; word = word_at s.now.trace p; value = value_at s.now.trace p; epoch = epoch g.mode s.now.trace p; wait = noted_wait g.conflict g.mode s.now.trace p; stage = stage_of s p }
 
 -- the list of buffer b of core n
 abbrev pub entries : Settings → State → ℕ → ℕ → List Entry

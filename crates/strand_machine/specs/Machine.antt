@@ -9,7 +9,7 @@ use Rattle.strand_buffer.specs.declared.entry.Slot.{Slot}
 use Rattle.strand_buffer.specs.Buffers.{IsEligible}
 use Rattle.strand_rules.specs.Cycle.{eligible}
 use Rattle.strand_rules.specs.Machine.{Machine}
-use Rattle.strand_machine.specs.Stand.{PartsSeen, Stand, buffers_at, request_at}
+use Rattle.strand_machine.specs.Stand.{PartsSeen, Stand, buffers_at, prefixes, request_at}
 
 -- a machine of the cycle rules, and the parts beside it
 pub record RingMachine : Type 0 where
@@ -28,9 +28,9 @@ pub record FitsCore (sizes : Extents) (n : ℕ) (e : Event) : Type 0 where
 -- Persist p is the eligible one at place j of buffer b of core n, and the core's buffers hand it out as this slot.
 pub record SlotIs (m : RingMachine) (n b j : ℕ) (slot : Slot) (p : ℕ) : Type 0 where
   pub at : slice_get (eligible m.machine.config m.machine.state n b) j ≡ Some p
-  pub waits : held m.machine.state.buffered p ≡ true
+  pub buffered : held m.machine.state.buffered p ≡ true
   pub undone : held m.machine.state.durable p ≡ false
   pub persist : event_is is_persist m.machine.state.now.trace p ≡ true
   pub core : core_at m.machine.state.now.trace p < length m.machine.state.now.cores
   pub request : record { core = n; buffer = b; number = slot.number; word = slot.word; value = slot.value } ≡ request_at m.machine.config m.machine.state p
-  pub eligible : IsEligible (buffers_at m.parts n) b slot.number
+  pub eligible : IsEligible (buffers_at m.parts n) b slot.number (prefixes m.parts)

@@ -3,11 +3,14 @@ use Rattle.std.specs.Prelude.{◌≡◌, ℕ, zero, suc, ◌+◌, ◌-◌, ◌<�
 use Rattle.std.specs.Option.{option_map, unwrap_or}
 use Rattle.std.specs.declared.option.Option.{Option}
 use Rattle.strand_inputs.specs.declared.mode.Mode.{Mode}
+use Rattle.strand_inputs.specs.declared.conflict.Conflict.TheVariants.{Tag}
 use Rattle.strand_inputs.specs.Settings.{Settings}
 use Rattle.strand_exec.specs.Core.{Extents}
 use Rattle.strand_events.specs.declared.event.Event.{Event}
-use Rattle.strand_events.specs.Trace.{is_access, is_persist, is_barrier, core_at, word_at, value_at, event_is, core_event_is, strand_number, epoch}
+use Rattle.strand_events.specs.Trace.{is_access, is_persist, is_barrier, persists_of, core_at, word_at, value_at, event_is, core_event_is, strand_number, epoch}
 use Rattle.strand_events.specs.Order.{held}
+use Rattle.strand_events.specs.Prefixes.{core_persists, durable_prefix, made_below}
+use Rattle.strand_events.specs.Waits.{each_core}
 use Rattle.strand_rules.specs.Cycle.{State, is_item, items, gone, is_accepted, buffer_of}
 use Rattle.strand_rules.specs.Looking.{next_strand}
 use Rattle.strand_queue.specs.declared.item.Item.{Item}
@@ -17,7 +20,9 @@ use Rattle.strand_buffer.specs.Buffers.{Buffers, list_in}
 use Rattle.strand_control.specs.declared.request.Request.{Request}
 use Rattle.strand_control.specs.Flight.{Flight}
 use Rattle.strand_tags.specs.TagsSeen.{TagsSeen, StandFor}
-use Rattle.strand_tags.specs.Traces.{core_persists, durable_prefix, made_below, noted_accesses}
+use Rattle.strand_tags.specs.Traces.{noted_accesses, noted_wait}
+use Rattle.strand_tags.specs.Entries.{KeepsWaits, no_waits}
+use Rattle.strand_tags.specs.declared.core_waits.CoreWaits.{CoreWaits}
 use Rattle.strand_cache.specs.Seen.{Seen}
 use Rattle.strand_machine.specs.Lists.{persist_number, entries, begun}
 use Rattle.strand_machine.specs.Cached.{CacheStands}
@@ -76,7 +81,7 @@ pub record BuffersStand (g : Settings) (s : State) (n : ℕ) (bs : Buffers) : Ty
 pub record TagsStand (g : Settings) (sizes : Extents) (s : State) (tags : TagsSeen) : Type 0 where
   pub extents : tags.extents ≡ sizes
   pub cores : length tags.strands ≡ length s.now.cores
-  pub accesses : StandFor tags (noted_accesses g.mode s.now.trace)
+  pub accesses : StandFor tags (noted_accesses g.conflict g.mode s.now.trace)
   pub strands : (n : ℕ) → n < length s.now.cores → slice_index tags.strands n ≡ unwrap_or (option_map (strand_number g.mode s.now.trace) (last_access s.now.trace n)) 0
   pub made : (n : ℕ) → n < length s.now.cores → slice_index tags.made n ≡ unwrap_or (option_map (λ a. made_below s.now.trace n (a + 1)) (last_access s.now.trace n)) 0
 
@@ -88,6 +93,8 @@ pub record Tally : Type 0 where
   pub first : ℕ
   -- the number of the strand that its next event is of
   pub strand : ℕ
+  -- what it keeps of the waits of its accesses
+  pub waits : CoreWaits
   -- for how many persists there is room
   pub room : ℕ
 
@@ -96,6 +103,16 @@ pub record TallyStands (g : Settings) (s : State) (n : ℕ) (c : Tally) : Type 0
   pub numbers : c.numbers ≡ map (persist_number s.now.trace) (core_persists s.now.trace n)
   pub first : c.first ≡ durable_prefix s.now.trace (held s.durable) n
   pub strand : c.strand ≡ next_strand g.mode s.now.trace n
+  pub waits : g.conflict ≡ Tag → KeepsWaits g.mode s.now.trace n c.waits
+
+-- the waits that are kept of persists, by the persists' numbers, and for how many there is room
+pub record Waiting : Type 0 where
+  pub waits : List (List ℕ)
+  pub room : ℕ
+
+-- the waits of a trace's persists
+abbrev pub persist_waits : Settings → List Event → List (List ℕ)
+persist_waits g t = map (noted_wait g.conflict g.mode t) (persists_of t)
 
 -- the parts of the machine; the queues, the buffers and what is counted are by core
 pub record PartsSeen : Type 0 where
@@ -104,6 +121,7 @@ pub record PartsSeen : Type 0 where
   pub tags : TagsSeen
   pub control : Flight
   pub tallies : List Tally
+  pub waiting : Waiting
   pub cache : Seen
 
 abbrev pub no_queue : Queue
@@ -113,7 +131,7 @@ abbrev pub no_buffers : Buffers
 no_buffers = record { ring = 0; strand = 0; lists = []; number = None; epoch = None }
 
 abbrev pub no_tally : Tally
-no_tally = record { numbers = []; first = 0; strand = 0; room = 0 }
+no_tally = record { numbers = []; first = 0; strand = 0; waits = no_waits; room = 0 }
 
 -- the parts of core n
 abbrev pub queue_at : PartsSeen → ℕ → Queue
@@ -125,6 +143,10 @@ buffers_at m n = slice_index_or m.buffers n no_buffers
 abbrev pub tally_at : PartsSeen → ℕ → Tally
 tally_at m n = slice_index_or m.tallies n no_tally
 
+-- how many of each core's first persists are all durable
+abbrev pub prefixes : PartsSeen → List ℕ
+prefixes m = each_core (λ c. (tally_at m c).first)
+
 -- the parts stand for the state
 pub record Stand (g : Settings) (sizes : Extents) (s : State) (m : PartsSeen) : Type 0 where
   pub queue_count : length m.queues ≡ length s.now.cores
@@ -135,4 +157,5 @@ pub record Stand (g : Settings) (sizes : Extents) (s : State) (m : PartsSeen) : 
   pub control : m.control ≡ record { requests = requests g s; limit = g.flight }
   pub tally_count : length m.tallies ≡ length s.now.cores
   pub tallies : (n : ℕ) → n < length s.now.cores → TallyStands g s n (tally_at m n)
+  pub waits : m.waiting.waits ≡ persist_waits g s.now.trace
   pub cache : CacheStands g s m.cache

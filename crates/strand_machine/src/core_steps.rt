@@ -48,6 +48,7 @@ impl Machine {
         self.pipeline.keeps();
         // It tells that no more items wait than the depth lets.
         let _full = self.parts.queue(n).is_full();
+        let wait = self.next_wait(n, event);
         let loaded = self.parts.access(n, plan);
         self.pipeline.retire(n, effect, event, loaded);
         let Some(event) = event else {
@@ -56,7 +57,8 @@ impl Machine {
         let config = self.pipeline.config();
         let item = newest_item(self.pipeline.trace(), config.mode, event);
         self.parts.enqueue(n, item);
-        self.parts.note_access(n, event);
+        self.parts.note_access(n, event, &wait);
+        self.parts.note_wait(n, config, event, &wait);
     }
 
     // Core n retires its next instruction, unless it has ended or waits.

@@ -4,28 +4,104 @@ ghost use Rattle.strand_base.specs.Counting.{any_below};
 ghost use Rattle.strand_events.specs.Fits.{EventFits};
 ghost use Rattle.strand_events.specs.Order.{held};
 ghost use Rattle.strand_events.specs.Trace.{is_access};
-ghost use Rattle.strand_rules.specs.Cycle.{join_waits, made_turn, must_wait, queued};
+ghost use Rattle.strand_events.specs.Waits.{wait_vector};
+ghost use Rattle.strand_inputs.specs.declared.conflict.Conflict.TheVariants.{Stall, Tag};
+ghost use Rattle.strand_rules.specs.Cycle.{access_waits, join_unmet, join_waits, made_turn, must_wait, queued};
+ghost use Rattle.strand_tags.specs.Traces.{noted_wait};
 ghost use Rattle.strand_machine.specs.Machine.{FitsCore};
 ghost use Rattle.strand_machine.specs.Stand.{tally_at};
 
 use crate::Machine;
 use crate::parts::Parts;
 use strand_events::Event;
+use strand_inputs::Conflict;
 use strand_rules::{Cause, Turn, is_item};
+use strand_tags::CountVector;
 
 impl Machine {
-    // Whether a JoinStrand of core n waits: its queue isn't empty, or not all of its persists are durable.
+    // Whether a JoinStrand of core n waits: its queue isn't empty, or not all of its persists are durable, or
+    // under tag the wait of some access of it isn't met.
     fn join_waits(&self, n: u32) -> bool
         requires { n < length self.now.machine.state.now.cores }
         ensures { result ≡ join_waits self.now.machine.config self.now.machine.state n }
     {
         let tally = self.parts.tally(n);
-        !self.parts.queue(n).is_empty() || tally.first() < tally.made()
+        !self.parts.queue(n).is_empty() || tally.first() < tally.made() || self.join_unmet(n)
+    }
+
+    // Whether under tag the wait of some access of core n isn't met.
+    fn join_unmet(&self, n: u32) -> bool
+        requires { n < length self.now.machine.state.now.cores }
+        ensures { result ≡ join_unmet self.now.machine.config.conflict self.now.machine.config.mode
+            self.now.machine.state.now.trace (held self.now.machine.state.durable) n }
+    {
+        self.pipeline.keeps();
+        match self.pipeline.config().conflict {
+            Conflict::Stall => false,
+            Conflict::Tag => {
+                let tally = self.parts.tally(n);
+                self.parts.some_missing(&tally.waits().all.counts)
+            }
+        }
+    }
+
+    // Whether under stall an event of core n waits for an access that conflicts with it.
+    fn access_waits(&self, n: u32, event: Event) -> bool
+        requires core { n < length self.now.machine.state.now.cores }
+        requires marked { EventFits event }
+        requires fits { FitsCore self.now.machine.program.sizes n event }
+        ensures { result ≡ access_waits self.now.machine.config.conflict self.now.machine.config.mode
+            self.now.machine.state.now.trace (held self.now.machine.state.durable) event }
+    {
+        match self.pipeline.config().conflict {
+            Conflict::Stall => event.is_access() && self.must_wait(n, event),
+            Conflict::Tag => false,
+        }
+    }
+
+    // The wait of core n's next event, if there is one: zeros under stall, and where it is no access.
+    pub(crate) fn next_wait(&self, n: u32, event: Option<Event>) -> CountVector
+        requires core { n < length self.now.machine.state.now.cores }
+        requires marked { IfSome event EventFits }
+        requires fits { IfSome event (FitsCore self.now.machine.program.sizes n) }
+        ensures { IfSome event (λ e. result.counts ≡ noted_wait self.now.machine.config.conflict
+            self.now.machine.config.mode (self.now.machine.state.now.trace ++ e ∷ [])
+            (length self.now.machine.state.now.trace)) }
+    {
+        let none = CountVector { counts: [0; 8] };
+        let Some(event) = event else {
+            return none;
+        };
+        match self.pipeline.config().conflict {
+            Conflict::Tag if event.is_access() => self.access_wait(n, event),
+            Conflict::Tag | Conflict::Stall => none,
+        }
+    }
+
+    // The wait of core n's next event, which is an access, under tag.
+    fn access_wait(&self, n: u32, event: Event) -> CountVector
+        requires tag { self.now.machine.config.conflict ≡ Tag }
+        requires core { n < length self.now.machine.state.now.cores }
+        requires access { is_access event ≡ true }
+        requires marked { EventFits event }
+        requires fits { FitsCore self.now.machine.program.sizes n event }
+        ensures { result.counts ≡ wait_vector self.now.machine.config.mode
+            (self.now.machine.state.now.trace ++ event ∷ []) (length self.now.machine.state.now.trace) }
+    {
+        self.pipeline.keeps();
+        let config = self.pipeline.config();
+        let tally = self.parts.tally(n);
+        let covered = self
+            .parts
+            .tags()
+            .covers(n, tally.strand(), event.word(), event.is_store());
+        covered.greater(&tally.waits().by_order(config.mode, n))
     }
 
     // Whether an access of core n waits: of some core more persists are covered than are all durable.
     fn must_wait(&self, n: u32, event: Event) -> bool
         requires core { n < length self.now.machine.state.now.cores }
+        requires stall { self.now.machine.config.conflict ≡ Stall }
         requires access { is_access event ≡ true }
         requires marked { EventFits event }
         requires fits { FitsCore self.now.machine.program.sizes n event }
@@ -64,7 +140,7 @@ impl Machine {
         if event.is_join() && self.join_waits(n) {
             return Turn::Bubble(Cause::Join);
         }
-        if event.is_access() && self.must_wait(n, event) {
+        if self.access_waits(n, event) {
             return Turn::Bubble(Cause::Conflict);
         }
         let config = self.pipeline.config();

@@ -14,6 +14,7 @@ mod send_steps;
 mod tally;
 #[cfg(test)]
 mod tests;
+mod waiting;
 mod write_steps;
 
 pub use machine::Machine;

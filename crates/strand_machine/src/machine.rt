@@ -3,6 +3,9 @@ ghost use Rattle.strand_events.specs.Order.{HoldsJoined, IsDownwardClosed};
 ghost use Rattle.strand_events.specs.Places.{LieIn};
 ghost use Rattle.strand_inputs.specs.Schedule.{IsBelow};
 ghost use Rattle.strand_queue.specs.Queue.{queue};
+ghost use Rattle.strand_inputs.specs.declared.conflict.Conflict.TheVariants.{Tag};
+ghost use Rattle.strand_rules.specs.declared.turn.Cause.TheVariants as causes;
+ghost use Rattle.strand_rules.specs.declared.turn.Turn.TheVariants.{Bubble};
 ghost use Rattle.strand_rules.specs.Cycle.{durable_set};
 ghost use Rattle.strand_rules.specs.Machine.{machine_at, made_to, durable_persists, SameSetup, StandsOn, Steps};
 ghost use Rattle.strand_machine.specs.Cached.{CacheStands, cache_counts, core_counts};
@@ -218,14 +221,17 @@ impl Machine {
     }
 
     /// Makes a step, for a core and a buffer of the machine. It takes no memory. A fault comes only where
-    /// the bank refused the step's store, and then nothing else changed. A bank that stood for the state
-    /// before stands for the state after it, whatever the turn. The parts stand for the state after it.
+    /// the bank refused the step's store, and then nothing else changed. Under the rule `tag` no step is a
+    /// bubble for a conflict. A bank that stood for the state before stands for the state after it, whatever
+    /// the turn. The parts stand for the state after it.
     pub fn step(&mut self, step: Step, bank: &mut ModuleBank) -> Turn
         requires room { self.old.machine.made < self.old.machine.steps }
         requires step { IsBelow (length self.old.machine.state.now.cores)
             self.old.machine.config.buffers step }
         requires bank { self.old.machine.program.sizes.persistent ≤ (bank_seen holds bank.old).size }
         ensures step { Steps self.old.machine self.new.machine (bank_seen holds bank.old) (bank_seen holds bank.new) step result }
+        ensures tagged { self.old.machine.config.conflict ≡ Tag
+            → result ≡ Bubble causes.Conflict → ⊥ }
         ensures setup { SameSetup self.old.machine self.new.machine (bank_seen holds bank.old) (bank_seen holds bank.new) }
         ensures stands { StandsOn self.old.machine.program.sizes.persistent
             self.old.machine.state self.new.machine.state (bank_seen holds bank.old) (bank_seen holds bank.new) }

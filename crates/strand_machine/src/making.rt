@@ -9,6 +9,7 @@ ghost use Rattle.strand_machine.specs.Changed.{empty_tally, start_parts};
 
 use crate::parts::Parts;
 use crate::tally::CoreTally;
+use crate::waiting::Waiting;
 use std::alloc::Global;
 use strand_base::OutOfMemory;
 use strand_buffer::StrandBuffers;
@@ -21,7 +22,7 @@ use strand_queue::PersistQueue;
 use strand_tags::Tags;
 
 // The parts of a machine of this image, whose regions have these sizes, with room for so many persists a
-// core.
+// core, and for their waits.
 pub(crate) fn fresh_parts(
     alloc: Global,
     config: Config,
@@ -46,6 +47,7 @@ pub(crate) fn fresh_parts(
         tags,
         control: Controller::new(alloc, config.flight)?,
         tallies: fresh_tallies(alloc, cores, room)?,
+        waiting: Waiting::new(alloc, room)?,
         cache,
     })
 }

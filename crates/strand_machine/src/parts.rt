@@ -1,30 +1,33 @@
 ghost use Rattle.std.specs.Prelude.{◌≡◌, ◌<◌, ◌≤◌, ◌^◌, ◌-◌, true, false, IfOk, IfSome, length, slice_index};
 ghost use Rattle.strand_buffer.specs.Buffers.{IsEligible, IsSent};
 ghost use Rattle.strand_control.specs.Flight.{LieInBank, Writes};
-ghost use Rattle.strand_events.specs.Trace.{is_access, is_store, word_of};
+ghost use Rattle.strand_events.specs.Trace.{is_access, is_persist, is_store, word_of};
 ghost use Rattle.strand_exec.specs.Memory.{extents_of};
 ghost use Rattle.strand_exec.specs.Plan.{IsPlaced};
 ghost use Rattle.strand_rules.specs.Pipeline.{overwritten};
 ghost use Rattle.strand_rules.specs.Visible.{loaded};
 ghost use Rattle.strand_tags.specs.Access.{access, noted_as};
 ghost use Rattle.strand_tags.specs.TagsSeen.{CanAsk};
-ghost use Rattle.strand_machine.specs.Changed.{CanQueue, CanTake, GoesThrough, Notes, durable_first, taken, with_dispatched, with_made, with_sent, with_written};
-ghost use Rattle.strand_machine.specs.Stand.{buffers_at, queue_at, tally_at};
+ghost use Rattle.strand_machine.specs.Changed.{CanQueue, CanTake, GoesThrough, HasWait, KeepsWait, Notes, durable_first, taken, wait_at, with_dispatched, with_made, with_sent, with_written};
+ghost use Rattle.strand_machine.specs.Stand.{buffers_at, prefixes, queue_at, tally_at};
+ghost use Rattle.strand_inputs.specs.declared.conflict.Conflict.TheVariants.{Tag};
 ghost use Rattle.strand_modules.specs.Seen.{bank_seen};
 
 use crate::tally::CoreTally;
+use crate::waiting::Waiting;
 use std::marker::Model;
 use strand_buffer::StrandBuffers;
 use strand_cache::{Change, Hierarchy};
 use strand_control::{Controller, Request, WriteTurn};
 use strand_events::Event;
 use strand_exec::Plan;
+use strand_inputs::{Config, Conflict};
 use strand_modules::ModuleBank;
 use strand_queue::{Item, PersistQueue};
-use strand_tags::Tags;
+use strand_tags::{CountVector, Tags};
 
-// The queue and the buffers of each core, the tags, the controller, what is counted of each core, and
-// the caches.
+// The queue and the buffers of each core, the tags, the controller, what is counted of each core, the
+// waits of the persists, and the caches.
 #[derive(Drop)]
 pub(crate) struct Parts {
     pub(crate) queues: Vec<PersistQueue>,
@@ -32,6 +35,7 @@ pub(crate) struct Parts {
     pub(crate) tags: Tags,
     pub(crate) control: Controller,
     pub(crate) tallies: Vec<CoreTally>,
+    pub(crate) waiting: Waiting,
     pub(crate) cache: Hierarchy,
 }
 
@@ -138,7 +142,7 @@ impl Parts {
     }
 
     // Core n made an event: the tags note it where it is an access.
-    pub fn note_access(&mut self, n: u32, event: Event)
+    pub fn note_access(&mut self, n: u32, event: Event, wait: &CountVector)
         requires tally { n < length self.old.tallies }
         requires access { is_access event ≡ true → CanAsk self.old.tags
             (access n (tally_at self.old n).strand (word_of event) (is_store event)) }
@@ -146,7 +150,7 @@ impl Parts {
             → slice_index self.old.tags.made n ≤ length (tally_at self.old n).numbers }
         ensures noted { is_access event ≡ true → Notes self.old.tags self.new.tags
             (noted_as (access n (tally_at self.old n).strand (word_of event) (is_store event))
-            (length (tally_at self.old n).numbers)) }
+            (length (tally_at self.old n).numbers) wait.now.counts) }
         ensures same { is_access event ≡ false → self.new.tags ≡ self.old.tags }
         ensures others { self.new ≡ record self.old { tags = self.new.tags } }
     {
@@ -155,7 +159,61 @@ impl Parts {
             let strand = tally.strand();
             let made = tally.made();
             self.tags
-                .note(n, strand, event.word(), event.is_store(), made);
+                .note(n, strand, event.word(), event.is_store(), made, wait);
+        }
+    }
+
+    // Core n made an event with this wait, which is kept where it is a persist, and under tag by the core.
+    pub fn note_wait(&mut self, n: u32, config: Config, event: Event, wait: &CountVector)
+        requires tally { n < length self.old.tallies }
+        requires room { is_persist event ≡ true → length self.old.waiting.waits < self.old.waiting.room }
+        requires made { config.conflict ≡ Tag → (tally_at self.old n).waits.made < 2 ^ 32 - 1 }
+        ensures kept { KeepsWait config self.old self.new n event wait.now.counts }
+        ensures others { self.new ≡ record self.old { waiting = self.new.waiting; tallies = self.new.tallies } }
+    {
+        if event.is_persist() {
+            self.waiting.push(wait.counts);
+        }
+        if let Conflict::Tag = config.conflict {
+            let tally = &mut self.tallies[n as usize];
+            tally.follow(config.mode, event, wait);
+        }
+    }
+
+    // How many of core c's first persists are all durable, 0 where there is no such core.
+    fn prefix(&self, c: usize) -> u32
+        ensures { result ≡ (tally_at self.now c).first }
+    {
+        match self.tallies.get(c) {
+            Some(tally) => tally.first(),
+            None => 0,
+        }
+    }
+
+    // The same of each of eight cores.
+    pub fn prefixes(&self) -> [u32; 8]
+        ensures { result ≡ prefixes self.now }
+    {
+        [
+            self.prefix(0),
+            self.prefix(1),
+            self.prefix(2),
+            self.prefix(3),
+            self.prefix(4),
+            self.prefix(5),
+            self.prefix(6),
+            self.prefix(7),
+        ]
+    }
+
+    // The wait that is kept of an item, where it is a persist.
+    fn wait_at(&self, item: Item) -> [u32; 8]
+        requires { HasWait self.now item }
+        ensures { result ≡ wait_at self.now item }
+    {
+        match item {
+            Item::Persist { number, .. } => self.waiting.at(number),
+            Item::Barrier | Item::NewStrand => [0; 8],
         }
     }
 
@@ -164,23 +222,27 @@ impl Parts {
         requires queue { n < length self.old.queues }
         requires buffers { n < length self.old.buffers }
         requires take { CanTake (buffers_at self.old n) item }
+        requires wait { HasWait self.old item }
         ensures { self.new ≡ with_dispatched self.old n item }
     {
+        let wait = self.wait_at(item);
         let queue = &mut self.queues[n as usize];
         queue.pop();
         let buffers = &mut self.buffers[n as usize];
-        take(buffers, item);
+        take(buffers, item, wait);
     }
 
     // A buffer's persist is sent.
     pub fn send(&mut self, r: Request)
         requires core { r.core < length self.old.buffers }
-        requires eligible { IsEligible (buffers_at self.old r.core) r.buffer r.number }
+        requires eligible { IsEligible (buffers_at self.old r.core) r.buffer r.number
+            (prefixes self.old) }
         requires room { length self.old.control.requests < self.old.control.limit }
         ensures { self.new ≡ with_sent self.old r }
     {
+        let durable = self.prefixes();
         let buffers = &mut self.buffers[r.core as usize];
-        buffers.sent(r.buffer, r.number);
+        buffers.sent(r.buffer, r.number, &durable);
         self.control.accept(r);
     }
 
@@ -209,10 +271,10 @@ impl Parts {
     }
 }
 
-// A core's buffers take an item that it dispatches.
-fn take(buffers: &mut StrandBuffers, item: Item)
+// A core's buffers take an item that it dispatches, a persist with this wait.
+fn take(buffers: &mut StrandBuffers, item: Item, wait: [u32; 8])
     requires { CanTake buffers.old item }
-    ensures { buffers.new ≡ taken buffers.old item }
+    ensures { buffers.new ≡ taken buffers.old item wait }
 {
     match item {
         Item::Persist {
@@ -220,7 +282,7 @@ fn take(buffers: &mut StrandBuffers, item: Item)
             word,
             value,
             epoch,
-        } => buffers.accept(number, word, value, epoch),
+        } => buffers.accept(number, word, value, epoch, wait),
         Item::Barrier => {}
         Item::NewStrand => buffers.begin(),
     }

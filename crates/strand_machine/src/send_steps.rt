@@ -4,7 +4,7 @@ ghost use Rattle.strand_inputs.specs.declared.step.Step.TheVariants.{Send};
 ghost use Rattle.strand_rules.specs.Cycle.{send_after, turn};
 ghost use Rattle.strand_rules.specs.Machine.{made_to, stepped};
 ghost use Rattle.strand_machine.specs.Machine.{PartsStand, SlotIs};
-ghost use Rattle.strand_machine.specs.Stand.{buffers_at};
+ghost use Rattle.strand_machine.specs.Stand.{buffers_at, prefixes};
 ghost use Rattle.strand_buffer.specs.Buffers.{eligible_slot};
 
 use crate::Machine;
@@ -17,7 +17,7 @@ impl Machine {
     fn persist_in(&self, n: u32, b: u32, j: u32, slot: Slot) -> usize
         requires core { n < length self.now.machine.state.now.cores }
         requires buffer { b < self.now.machine.config.buffers }
-        requires slot { eligible_slot (buffers_at self.now.parts n) b j ≡ Some slot }
+        requires slot { eligible_slot (buffers_at self.now.parts n) b j (prefixes self.now.parts) ≡ Some slot }
         ensures { SlotIs self.now n b j slot result }
     {
         self.pipeline.keeps();
@@ -55,7 +55,8 @@ impl Machine {
         ensures parts { PartsStand self.new }
     {
         self.pipeline.keeps();
-        let Some(slot) = self.parts.buffers(n).eligible(b, j) else {
+        let durable = self.parts.prefixes();
+        let Some(slot) = self.parts.buffers(n).eligible(b, j, &durable) else {
             return self.bubble(Cause::NoEntry);
         };
         if !self.parts.control().room() {

@@ -1,19 +1,25 @@
-ghost use Rattle.std.specs.Prelude.{◌≡◌, ◌<◌, ◌≤◌, ◌-◌, ◌^◌, IfOk, length, slice_get};
+ghost use Rattle.std.specs.Prelude.{◌≡◌, ◌<◌, ◌≤◌, ◌-◌, ◌^◌, ℕ, IfOk, length, slice_get, slice_index};
 ghost use Rattle.strand_events.specs.Order.{held};
+ghost use Rattle.strand_events.specs.Vectors.{waits_after};
+ghost use Rattle.strand_tags.specs.Entries.{wait_entry};
 ghost use Rattle.strand_machine.specs.Changed.{advanced, durable_first, empty_tally, is_marked, tallied};
 
 use std::alloc::Global;
 use std::marker::Model;
 use strand_base::OutOfMemory;
+use strand_events::Event;
+use strand_inputs::Mode;
 use strand_queue::Item;
+use strand_tags::{CoreWaits, CountVector};
 
-// What is counted of a core: its persists and how many of the first are all durable, and the strands
-// that it began.
+// What is counted of a core: its persists and how many of the first are all durable, the strands that it
+// began, and what it keeps of the waits of its accesses.
 #[derive(Drop)]
 pub(crate) struct CoreTally {
     numbers: Vec<u32>,
     first: u32,
     strand: u32,
+    waits: CoreWaits,
     room: u32,
 }
 
@@ -39,6 +45,7 @@ impl CoreTally {
             numbers: Vec::with_capacity(alloc, room as usize)?,
             first: 0,
             strand: 0,
+            waits: CoreWaits::new(),
             room,
         })
     }
@@ -64,6 +71,23 @@ impl CoreTally {
         ensures { result ≡ self.now.strand }
     {
         self.strand
+    }
+
+    // What it keeps of the waits of its accesses.
+    pub fn waits(&self) -> &CoreWaits
+        ensures { result.now ≡ self.now.waits }
+    {
+        &self.waits
+    }
+
+    // The core made an event with this wait.
+    pub fn follow(&mut self, mode: Mode, event: Event, wait: &CountVector)
+        requires { self.old.waits.made < 2 ^ 32 - 1 }
+        ensures own { (c : ℕ) → c < 8 → wait_entry self.new.waits c
+            ≡ waits_after mode event (slice_index wait.now.counts c) (wait_entry self.old.waits c) }
+        ensures others { self.new ≡ record self.old { waits = self.new.waits } }
+    {
+        self.waits = self.waits.after(mode, event, wait);
     }
 
     // The core made an item.

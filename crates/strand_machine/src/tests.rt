@@ -8,7 +8,7 @@ use std::process::Abort;
 use std::test::*;
 use strand_base::PmModule;
 use strand_image::Image;
-use strand_inputs::{Config, Mode, Step, read_schedule};
+use strand_inputs::{Config, Conflict, Mode, Step, read_schedule};
 use strand_modules::{ModuleBank, RamModule};
 use strand_rules::PlainMachine;
 
@@ -20,6 +20,7 @@ const MACHINE: Config = Config {
     flight: 2,
     sets: 4,
     ways: 2,
+    conflict: Conflict::Stall,
 };
 
 const STEPS: u32 = 800;
@@ -139,7 +140,7 @@ fn compare(
     Ok(ring.durable().iter().filter(|durable| **durable).count())
 }
 
-// The same in all three modes, each of which makes more persists durable than so many, on banks of one
+// The same in all three modes under both rules of conflicts, each of which makes more persists durable than so many, on banks of one
 // module of two words, whose third store fails.
 fn compare_modes(
     rt: &impl Abort,
@@ -147,11 +148,19 @@ fn compare_modes(
     steps: &[Step],
     durable: usize,
 ) -> Result<(), Fail> {
-    let modes = [(Mode::Strict, 1), (Mode::Epoch, 2), (Mode::Strand, 1)];
-    for (mode, ways) in modes {
+    let settings = [
+        (Mode::Strict, 1, Conflict::Stall),
+        (Mode::Epoch, 2, Conflict::Stall),
+        (Mode::Strand, 1, Conflict::Stall),
+        (Mode::Strict, 2, Conflict::Tag),
+        (Mode::Epoch, 1, Conflict::Tag),
+        (Mode::Strand, 2, Conflict::Tag),
+    ];
+    for (mode, ways, conflict) in settings {
         let config = Config {
             mode,
             ways,
+            conflict,
             ..MACHINE
         };
         let mut first = RamModule::new(alloc, 2)?;
@@ -165,7 +174,7 @@ fn compare_modes(
         let mut plain = ModuleBank::new(alloc, plain).ok().ok_or("a bank")?;
         let mut ring = ModuleBank::new(alloc, ring).ok().ok_or("a bank")?;
         let found = compare(rt, alloc, config, steps, &mut plain, &mut ring)?;
-        assert!(rt; found > durable, "{mode:?}");
+        assert!(rt; found > durable, "{mode:?} {conflict:?}");
     }
     Ok(())
 }

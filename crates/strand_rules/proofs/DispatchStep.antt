@@ -10,18 +10,19 @@ use Rattle.strand_events.specs.Trace.{is_persist, core_at, event_is, core_event_
 use Rattle.strand_events.specs.Order.{Set}
 use Rattle.strand_rules.specs.Cycle.{is_item, items}
 use Rattle.strand_rules.specs.Parts.{Accepted}
+use Rattle.strand_inputs.specs.declared.conflict.Conflict.{Conflict}
 use Rattle.strand_rules.proofs.Ordered.{Ordered}
 use Rattle.strand_rules.proofs.Ranks.{rank, persist_ranks, same_rank}
 
 -- the first item of a queue isn't among the accepted persists
-pub not_yet : (mode : Mode) (t : List Event) (dispatched : ℕ → ℕ) (buffered : Set) (flight : List ℕ) (durable : Set) → Ordered mode t dispatched buffered flight durable → (core k : ℕ) → slice_get (items mode t core) (dispatched core) ≡ Some k → Accepted buffered flight durable k → ⊥
-not_yet mode t dispatched buffered flight durable kept core k front a =
+pub not_yet : (conflict : Conflict) (mode : Mode) (t : List Event) (dispatched : ℕ → ℕ) (buffered : Set) (flight : List ℕ) (durable : Set) → Ordered conflict mode t dispatched buffered flight durable → (core k : ℕ) → slice_get (items mode t core) (dispatched core) ≡ Some k → Accepted buffered flight durable k → ⊥
+not_yet conflict mode t dispatched buffered flight durable kept core k front a =
     let first = list_get (length t) (core_event_is (is_item mode) core t) (dispatched core) k front in
     let c : core_at t k ≡ core = eqb-true (core_at t k) core ((and_parts (event_is (is_item mode) t k) (core_at t k == core) first.1).1) in
     let r : rank mode t k ≡ dispatched core = ap (λ c. count_below k (core_event_is (is_item mode) c t)) c ∙ first.2 in
     omega (arith, r, kept.ranked k a, ap dispatched c)
 
-module _ (mode : Mode) (t : List Event) (dispatched : ℕ → ℕ) (buffered : Set) (flight : List ℕ) (durable : Set) (kept : Ordered mode t dispatched buffered flight durable) where
+module _ (conflict : Conflict) (mode : Mode) (t : List Event) (dispatched : ℕ → ℕ) (buffered : Set) (flight : List ℕ) (durable : Set) (kept : Ordered conflict mode t dispatched buffered flight durable) where
   module _ (core k : ℕ) (front : slice_get (items mode t core) (dispatched core) ≡ Some k) (dispatched' : ℕ → ℕ) (one : dispatched' core ≡ suc (dispatched core)) (rest : (c : ℕ) → (c ≡ core → ⊥) → dispatched' c ≡ dispatched c) (buffered' : Set) (from : (p : ℕ) → buffered' p ≡ true → ((p ≡ k) × (event_is is_persist t k ≡ true)) ⊎ (buffered p ≡ true)) (has : event_is is_persist t k ≡ true → buffered' k ≡ true) (still : (p : ℕ) → buffered p ≡ true → buffered' p ≡ true) where
     first : (k < length t) × (core_event_is (is_item mode) core t k ≡ true) × (count_below k (core_event_is (is_item mode) core t) ≡ dispatched core)
     first = list_get (length t) (core_event_is (is_item mode) core t) (dispatched core) k front
@@ -71,9 +72,9 @@ module _ (mode : Mode) (t : List Event) (dispatched : ℕ → ℕ) (buffered : S
       | inr ne ↦ let lower : rank mode t p < dispatched (core_at t p) = omega (arith, below, rest (core_at t p) ne) in still_accepted p (kept.taken p is lower)
     ]
 
-    pub dispatches : Ordered mode t dispatched' buffered' flight durable
+    pub dispatches : Ordered conflict mode t dispatched' buffered' flight durable
     dispatches = record {
-      links = kept.links;
+      met = kept.met;
       drained = kept.drained;
       persists = λ p a. elim (was_accepted p a) [ inl (e, is) ↦ ap (event_is is_persist t) e ∙ is | inr old ↦ kept.persists p old ];
       within = within';

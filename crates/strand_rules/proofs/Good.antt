@@ -12,13 +12,13 @@ use Rattle.strand_exec.specs.Memory.{Memory}
 use Rattle.strand_events.specs.declared.event.Event.{Event}
 use Rattle.strand_events.specs.Trace.{is_join, core_at}
 use Rattle.strand_events.specs.Order.{held, stands_between}
-use Rattle.strand_events.proofs.Epochs.{direct_parts}
 use Rattle.strand_rules.specs.Cycle.{State, start_at}
 use Rattle.strand_rules.specs.Parts.{Accepted, AreApart}
+use Rattle.strand_inputs.specs.declared.conflict.Conflict.{Conflict}
 use Rattle.strand_rules.proofs.Ordered.{Ordered}
 
-pub record Good (mode : Mode) (t : List Event) (cores : ℕ) (dispatched : List ℕ) (buffered : List Bool) (flight : List ℕ) (durable : List Bool) : Type 0 where
-  pub ordered : Ordered mode t (slice_index dispatched) (held buffered) flight (held durable)
+pub record Good (conflict : Conflict) (mode : Mode) (t : List Event) (cores : ℕ) (dispatched : List ℕ) (buffered : List Bool) (flight : List ℕ) (durable : List Bool) : Type 0 where
+  pub ordered : Ordered conflict mode t (slice_index dispatched) (held buffered) flight (held durable)
   pub apart : AreApart (held buffered) flight (held durable)
   pub buffered_marks : length buffered ≡ length t
   pub durable_marks : length durable ≡ length t
@@ -27,16 +27,16 @@ pub record Good (mode : Mode) (t : List Event) (cores : ℕ) (dispatched : List 
   pub owned : (i : ℕ) → i < length t → core_at t i < cores
 
 abbrev pub IsGood : Settings → State → Type 0
-IsGood g s = Good g.mode s.now.trace (length s.now.cores) s.dispatched s.buffered s.flight s.durable
+IsGood g s = Good g.conflict g.mode s.now.trace (length s.now.cores) s.dispatched s.buffered s.flight s.durable
 
 nothing : (p : ℕ) → Accepted (λ p. false) [] (λ p. false) p → ⊥
 nothing p (inl b) = false≢true b
 nothing p (inr (inl (i, at))) = none-some p at
 nothing p (inr (inr d)) = false≢true d
 
-start_ordered : (mode : Mode) → Ordered mode [] (λ c. 0) (λ p. false) [] (λ p. false)
-start_ordered mode = record {
-  links = λ a b direct. absurd (false≢true ((direct_parts mode [] a b direct).1));
+start_ordered : (conflict : Conflict) (mode : Mode) → Ordered conflict mode [] (λ c. 0) (λ p. false) [] (λ p. false)
+start_ordered conflict mode = record {
+  met = λ b is must. absurd (false≢true is);
   drained = λ p joined. absurd (false≢true ((and_parts false (stands_between is_join 0 [] p 0) joined).0));
   persists = λ p a. absurd (nothing p a);
   within = λ core. omega arith;
@@ -54,7 +54,7 @@ none_gone (suc cores) (suc c) = none_gone cores c
 
 pub start_good : (g : Settings) (cores : List Core) (memory : Memory) → IsGood g (start_at cores memory)
 start_good g cores memory = record {
-  ordered = subst (λ d. Ordered g.mode [] d (held []) [] (held [])) (sym (fun_ext (none_gone (length cores)))) (start_ordered g.mode);
+  ordered = subst (λ d. Ordered g.conflict g.mode [] d (held []) [] (held [])) (sym (fun_ext (none_gone (length cores)))) (start_ordered g.conflict g.mode);
   apart = record { one_place = λ i h p a b. absurd (none-some p a); not_both = λ p b sent. false≢true b; not_done = λ p f d. false≢true d };
   buffered_marks = refl;
   durable_marks = refl;

@@ -38,13 +38,13 @@ unmarked_held marks (Some e) = held_grown marks
 
 module _ (g : Settings) (s : State) (good : IsGood g s) (n : ℕ) (there : n < length s.now.cores) where
   ordered_more : (o : Option Event) → ((e : Event) → o ≡ Some e → core_of e ≡ n) → made_turn g s n o ≡ Done
-      → Ordered g.mode (grown s.now.trace o) (slice_index s.dispatched) (held s.buffered) s.flight (held s.durable)
+      → Ordered g.conflict g.mode (grown s.now.trace o) (slice_index s.dispatched) (held s.buffered) s.flight (held s.durable)
   ordered_more None own done = good.ordered
   ordered_more (Some e) own done =
       let seen = event_done g s n e done in
-      grows g.mode s.now.trace e (slice_index s.dispatched) (held s.buffered) s.flight (held s.durable) good.ordered
+      grows g.mode s.now.trace e g.conflict (slice_index s.dispatched) (held s.buffered) s.flight (held s.durable) good.ordered
       (λ join p isp cp. none_wait s.now.trace (held s.durable) n (length s.now.trace) (seen.0 join) p isp (cp ∙ own e refl) (within is_persist s.now.trace p isp))
-      (λ a lt conflict apart. waited g.mode (s.now.trace ++ e ∷ []) (held s.durable) (length s.now.trace) (seen.1 (access_new s.now.trace e a conflict)) a lt conflict apart)
+      (λ stall a lt meets apart. waited g.mode (s.now.trace ++ e ∷ []) (held s.durable) (length s.now.trace) (seen.1 stall (access_new s.now.trace e a meets)) a lt meets apart)
 
   cores_more : (o : Option Event) → ((e : Event) → o ≡ Some e → core_of e ≡ n) → (i : ℕ) → i < length (grown s.now.trace o) → core_at (grown s.now.trace o) i < length s.now.cores
   cores_more None own i inside = good.owned i inside
@@ -54,7 +54,7 @@ module _ (g : Settings) (s : State) (good : IsGood g s) (n : ℕ) (there : n < l
   ]
 
   pub good_more : (o : Option Event) → ((e : Event) → o ≡ Some e → core_of e ≡ n) → made_turn g s n o ≡ Done
-      → Good g.mode (grown s.now.trace o) (length s.now.cores) s.dispatched (unmarked s.buffered o) s.flight (unmarked s.durable o)
+      → Good g.conflict g.mode (grown s.now.trace o) (length s.now.cores) s.dispatched (unmarked s.buffered o) s.flight (unmarked s.durable o)
   good_more o own done = record {
     ordered = rw (unmarked_held s.buffered o, unmarked_held s.durable o) (ordered_more o own done);
     apart = rw (unmarked_held s.buffered o, unmarked_held s.durable o) good.apart;
@@ -68,6 +68,6 @@ pub core_good : (g : Settings) (p : Program) (s : State) (n : ℕ) → IsGood g 
 core_good g p s n good done = rw (retired_trace p s.now n, retired_cores p s.now n) (go (next_plan p s.now n) refl done)
   where
     go : (o : Option Plan) → next_plan p s.now n ≡ o → core_turn g s n o ≡ Done
-        → Good g.mode (grown s.now.trace (event_in n s.now.memory o)) (length s.now.cores) s.dispatched (unmarked s.buffered (event_in n s.now.memory o)) s.flight (unmarked s.durable (event_in n s.now.memory o))
+        → Good g.conflict g.mode (grown s.now.trace (event_in n s.now.memory o)) (length s.now.cores) s.dispatched (unmarked s.buffered (event_in n s.now.memory o)) s.flight (unmarked s.durable (event_in n s.now.memory o))
     go None is turned = absurd (bubble_not_done causes.Ended turned)
     go (Some plan) is turned = good_more g s good n (plan_there p s.now n plan is) (event_of n s.now.memory plan) (λ e at. event_core n s.now.memory plan e at) turned

@@ -39,7 +39,7 @@ item_good g s n good (Some k) is =
     let inside : k < length s.buffered = omega (arith, item.0, good.buffered_marks) in
     let persist : Bool = event_is is_persist s.now.trace k in
     record {
-      ordered = dispatches g.mode s.now.trace (slice_index s.dispatched) (held s.buffered) s.flight (held s.durable) good.ordered n k is
+      ordered = dispatches g.conflict g.mode s.now.trace (slice_index s.dispatched) (held s.buffered) s.flight (held s.durable) good.ordered n k is
           (slice_index (slice_set s.dispatched n (gone s n + 1)))
           (let one : gone s n + 1 ≡ suc (gone s n) = omega arith in number_set s.dispatched n (gone s n + 1) there ∙ one)
           (λ c ne. number_other s.dispatched n c (gone s n + 1) ne)
@@ -48,7 +48,7 @@ item_good g s n good (Some k) is =
           (set_has persist k s.buffered inside)
           (set_still persist k s.buffered inside);
       apart = dispatch_apart (held s.buffered) s.flight (held s.durable) good.apart k
-          (λ sent. not_yet g.mode s.now.trace (slice_index s.dispatched) (held s.buffered) s.flight (held s.durable) good.ordered n k is (inr sent))
+          (λ sent. not_yet g.conflict g.mode s.now.trace (slice_index s.dispatched) (held s.buffered) s.flight (held s.durable) good.ordered n k is (inr sent))
           (held (if persist then slice_set s.buffered k true else s.buffered))
           (λ p b. elim (set_from persist k s.buffered inside p b) [ inl (e, isp) ↦ inl e | inr old ↦ inr old ]);
       buffered_marks = set_length persist k s.buffered ∙ good.buffered_marks;

@@ -37,7 +37,7 @@ run_good g p s [] good = good
 run_good g p s (step ∷ steps) good = run_good g p (after g p s step) steps (step_good g p s step good)
 
 pub good_closed : (g : Settings) (s : State) → IsGood g s → IsDownwardClosed g.mode s.now.trace (durable_set s)
-good_closed g s good = closed g.mode s.now.trace (slice_index s.dispatched) (held s.buffered) s.flight (held s.durable) good.ordered
+good_closed g s good = closed g.conflict g.mode s.now.trace (slice_index s.dispatched) (held s.buffered) s.flight (held s.durable) good.ordered
 
 pub run_closed : (g : Settings) (p : Program) (cores : List cores.Core) (memory : Memory) (steps : List Step)
     → IsDownwardClosed g.mode (run g p (start_at cores memory) steps).now.trace (durable_set (run g p (start_at cores memory) steps))

@@ -29,7 +29,7 @@ write_good g s j good None is done = good
 write_good g s j good (Some p) is done =
     let inside : p < length s.durable = omega (arith, within is_persist s.now.trace p (good.ordered.persists p (inr (inl (j, is)))), good.durable_marks) in
     record {
-      ordered = rw (held_set s.durable p inside) (writes g.mode s.now.trace (slice_index s.dispatched) (held s.buffered) s.flight (held s.durable) good.ordered j p is
+      ordered = rw (held_set s.durable p inside) (writes g.conflict g.mode s.now.trace (slice_index s.dispatched) (held s.buffered) s.flight (held s.durable) good.ordered j p is
           (no_older_request s j p ((if_done (older_waits s j p) causes.OlderWaits Done done).0)));
       apart = rw (held_set s.durable p inside) (write_apart (held s.buffered) s.flight (held s.durable) good.apart j p is);
       buffered_marks = good.buffered_marks;

@@ -1,17 +1,21 @@
 -- A core's step keeps the invariant.
 use Rattle.std.proofs.Common.{◌≡◌, ℕ, suc, ◌<◌, ◌≤◌, Bool, true, false, ◌⊎◌, inl, inr, List, [], ◌∷◌, ◌++◌, length, sym, ap, subst, ◌∙◌, arith, length-append}
-use Rattle.std.proofs.lemmas.Bool.{cases_eq, cases_Bool, and_parts, and_from}
+use Rattle.std.proofs.lemmas.Bool.{cases_eq, both_ways, and_parts, and_from}
 use Rattle.strand_inputs.specs.declared.mode.Mode.{Mode}
 use Rattle.strand_events.specs.declared.event.Event.{Event}
 use Rattle.strand_base.specs.Counting.{count_below}
 use Rattle.strand_events.specs.Trace.{is_persist, is_access, is_join, core_of, core_at, passes, event_is, core_event_is, same_strand}
-use Rattle.strand_events.specs.Order.{Set, directly_before, conflicts, stands_between, core_orders, is_joined}
+use Rattle.strand_events.specs.Order.{Set, conflicts, stands_between, is_joined}
 use Rattle.strand_rules.specs.Cycle.{is_item}
 use Rattle.strand_base.proofs.Counting.{get_last, count_agree, count_mono, at_or_below}
-use Rattle.strand_events.proofs.Prefix.{event_is_kept, core_kept, word_kept, core_event_kept, strand_kept, epoch_kept, directly_kept}
-use Rattle.strand_events.proofs.Epochs.{epochs_rise, strand_flip, direct_parts, conflict_word, core_linked, between_parts, between_from}
-use Rattle.strand_events.proofs.Chain.{AllDurableTo, Linked}
-use Rattle.strand_rules.specs.Parts.{Accepted, Older, Lower}
+use Rattle.strand_events.proofs.Prefix.{event_is_kept, core_kept, word_kept, core_event_kept, strand_kept, epoch_kept}
+use Rattle.strand_events.proofs.Epochs.{epochs_rise, strand_flip, direct_parts, core_linked, between_parts, between_from}
+use Rattle.strand_events.proofs.Chain.{AllDurableTo}
+use Rattle.strand_inputs.specs.declared.conflict.Conflict.{Conflict}
+use Rattle.strand_inputs.specs.declared.conflict.Conflict.TheVariants.{Stall}
+use Rattle.strand_events.proofs.Counted.{IsMet, counted_why, counted_earlier}
+use Rattle.strand_events.proofs.WaitKept.{counted_was}
+use Rattle.strand_rules.specs.Parts.{Accepted, Sent, Older, Lower}
 use Rattle.strand_rules.proofs.Ranks.{rank}
 use Rattle.strand_rules.proofs.Keeping.{within as event_within}
 use Rattle.strand_rules.proofs.Next.{core_new}
@@ -59,31 +63,37 @@ module _ (mode : Mode) (t : List Event) (e : Event) where
   pub items_kept : (core : ℕ) → count_below (length t) (core_event_is (is_item mode) core (t ++ e ∷ [])) ≡ count_below (length t) (core_event_is (is_item mode) core t)
   items_kept core = count_agree (length t) (core_event_is (is_item mode) core (t ++ e ∷ [])) (core_event_is (is_item mode) core t) (λ k below. core_event_kept t e (is_item mode) core k below)
 
-  linked_still : (durable : Set) (a b : ℕ) → a < length t → b < length t → Linked mode t durable a b → Linked mode (t ++ e ∷ []) durable a b
-  linked_still durable a b lt lt' (inl (same, inl low)) = inl (strand_kept t e mode a b lt lt' ∙ same, inl (omega (arith, epoch_kept t e mode a lt, epoch_kept t e mode b lt')))
-  linked_still durable a b lt lt' (inl (same, inr word)) = inl (strand_kept t e mode a b lt lt' ∙ same, inr (word_kept t e a lt ∙ word ∙ sym (word_kept t e b lt')))
-  linked_still durable a b lt lt' (inr all) = inr (λ p is c le. let in_old : p < length t = omega arith in all p (was is_persist p in_old is) (sym (core_kept t e p in_old) ∙ c ∙ core_kept t e a lt) le)
+  -- the wait of an old access is met as before
+  met_still : (durable : Set) (b : ℕ) → b < length t → IsMet mode t durable b → IsMet mode (t ++ e ∷ []) durable b
+  met_still durable b lt met p is counted =
+      let inside : p < length t = omega (arith, counted_earlier mode (t ++ e ∷ []) b p counted) in
+      met p (was is_persist p inside is) (counted_was mode t e b p lt inside counted)
 
-  -- a new access is linked to each access directly before it
-  linked_new : (durable : Set) → ((p : ℕ) → is_joined t p ≡ true → durable p ≡ true) → ((a : ℕ) → a < length t → conflicts (t ++ e ∷ []) a (length t) ≡ true → same_strand mode (t ++ e ∷ []) a (length t) ≡ false → AllDurableTo (t ++ e ∷ []) durable a) → (a : ℕ) → directly_before mode (t ++ e ∷ []) a (length t) ≡ true → Linked mode (t ++ e ∷ []) durable a (length t)
-  linked_new durable drained waited a direct = go (direct_parts mode (t ++ e ∷ []) a (length t) direct)
-    where
-      n : ℕ
-      n = length t
-
-      go : (a < length t) × (event_is is_access (t ++ e ∷ []) a ≡ true) × (event_is is_access (t ++ e ∷ []) (length t) ≡ true) × ((conflicts (t ++ e ∷ []) a (length t) ≡ true) ⊎ ((core_at (t ++ e ∷ []) a ≡ core_at (t ++ e ∷ []) (length t)) × (core_orders mode (core_at (t ++ e ∷ []) a) (t ++ e ∷ []) a (length t) ≡ true))) → Linked mode (t ++ e ∷ []) durable a (length t)
-      go (lt, is, is', inl conflict) = elim (cases_Bool (same_strand mode (t ++ e ∷ []) a (length t))) [
-        | inl same ↦ inl (same, inr (conflict_word (t ++ e ∷ []) a (length t) conflict))
-        | inr apart ↦ inr (waited a lt conflict apart)
-      ]
-      go (lt, is, is', inr (c, orders)) = elim (core_linked mode (t ++ e ∷ []) a (length t) lt is c orders) [
-        | inl (same, low) ↦ inl (same, inl low)
-        | inr join ↦ inr (λ p isp cp le.
-            let k = between_parts is_join (core_at (t ++ e ∷ []) a) (t ++ e ∷ []) a (length t) join in
-            let in_old : p < length t = omega arith in
-            let core_p : core_at t k.0 ≡ core_at t p = sym (core_kept t e k.0 k.2) ∙ k.4 ∙ sym cp ∙ core_kept t e p in_old in
-            let below : p < k.0 = omega (arith, k.1) in
-            drained p (and_from (event_is is_persist t p) (stands_between is_join (core_at t p) t p (length t)) (was is_persist p in_old isp) (between_from is_join (core_at t p) t p (length t) k.0 below k.2 (was is_join k.0 k.2 k.3) core_p)))
+  -- what the wait of a new access counts is durable, where the waits of the old ones are met and its conflicts waited for
+  met_new : (durable : Set) → ((b : ℕ) → event_is is_access t b ≡ true → IsMet mode t durable b) → ((p : ℕ) → is_joined t p ≡ true → durable p ≡ true)
+      → ((a : ℕ) → a < length t → conflicts (t ++ e ∷ []) a (length t) ≡ true → same_strand mode (t ++ e ∷ []) a (length t) ≡ false → AllDurableTo (t ++ e ∷ []) durable a)
+      → IsMet mode (t ++ e ∷ []) durable (length t)
+  met_new durable old drained waited p is counted =
+      let u : List Event = t ++ e ∷ [] in
+      let n : ℕ = length t in
+      let why = counted_why mode u n p counted in
+      let a : ℕ = why.0 in
+      let parts = direct_parts mode u a n why.1 in
+      let lt : a < n = parts.0 in
+      elim why.2 [
+        | inl handed_on ↦ met_still durable a lt (old a (was is_access a lt parts.1)) p is handed_on
+        | inr (apart, made) ↦ elim parts.3 [
+          | inl conflict ↦ waited a lt conflict apart p is made.core made.upto
+          | inr (c, orders) ↦ elim (core_linked mode u a n lt parts.1 c orders) [
+            | inl (same, low) ↦ absurd (both_ways (same_strand mode u a n) apart same)
+            | inr join ↦
+                let k = between_parts is_join (core_at u a) u a n join in
+                let in_old : p < n = omega (arith, made.upto) in
+                let core_p : core_at t k.0 ≡ core_at t p = sym (core_kept t e k.0 k.2) ∙ k.4 ∙ sym made.core ∙ core_kept t e p in_old in
+                let below : p < k.0 = omega (arith, k.1, made.upto) in
+                drained p (and_from (event_is is_persist t p) (stands_between is_join (core_at t p) t p n) (was is_persist p in_old is) (between_from is_join (core_at t p) t p n k.0 below k.2 (was is_join k.0 k.2 k.3) core_p))
+          ]
+        ]
       ]
 
   joined_was : (durable : Set) → ((p : ℕ) → is_joined t p ≡ true → durable p ≡ true) → (is_join e ≡ true → (p : ℕ) → event_is is_persist t p ≡ true → core_at t p ≡ core_of e → durable p ≡ true) → (p : ℕ) → is_joined (t ++ e ∷ []) p ≡ true → durable p ≡ true
@@ -100,17 +110,20 @@ module _ (mode : Mode) (t : List Event) (e : Event) where
             drained p (and_from (event_is is_persist t p) (stands_between is_join (core_at t p) t p (length t)) (was is_persist p lt parts.0) (between_from is_join (core_at t p) t p (length t) k.0 k.1 old (was is_join k.0 old k.3) (sym (core_kept t e k.0 old) ∙ k.4 ∙ core_kept t e p lt)))
       ]
 
-  module _ (dispatched : ℕ → ℕ) (buffered : Set) (flight : List ℕ) (durable : Set) (kept : Ordered mode t dispatched buffered flight durable) where
+  module _ (conflict : Conflict) (dispatched : ℕ → ℕ) (buffered : Set) (flight : List ℕ) (durable : Set) (kept : Ordered conflict mode t dispatched buffered flight durable) where
     old_accepted : (p : ℕ) → Accepted buffered flight durable p → p < length t
     old_accepted p a = event_within is_persist t p (kept.persists p a)
 
-    links_still : ((a : ℕ) → a < length t → conflicts (t ++ e ∷ []) a (length t) ≡ true → same_strand mode (t ++ e ∷ []) a (length t) ≡ false → AllDurableTo (t ++ e ∷ []) durable a) → (a b : ℕ) → directly_before mode (t ++ e ∷ []) a b ≡ true → Linked mode (t ++ e ∷ []) durable a b
-    links_still waited a b direct =
-        let parts = direct_parts mode (t ++ e ∷ []) a b direct in
-        elim (new_or_old is_access b parts.2) [
-          | inl new ↦ subst (λ x. Linked mode (t ++ e ∷ []) durable a x) (sym new) (linked_new durable kept.drained waited a (ap (directly_before mode (t ++ e ∷ []) a) (sym new) ∙ direct))
-          | inr old ↦ let before : a < length t = omega (arith, parts.0) in linked_still durable a b before old (kept.links a b (sym (directly_kept t e mode a b before old) ∙ direct))
-        ]
+    -- the waits that have to be met are met in the longer trace
+    met_more : (conflict ≡ Stall → (a : ℕ) → a < length t → conflicts (t ++ e ∷ []) a (length t) ≡ true → same_strand mode (t ++ e ∷ []) a (length t) ≡ false → AllDurableTo (t ++ e ∷ []) durable a)
+        → (b : ℕ) → event_is is_access (t ++ e ∷ []) b ≡ true → (conflict ≡ Stall) ⊎ Sent flight durable b → IsMet mode (t ++ e ∷ []) durable b
+    met_more waited b is (inr sent) =
+        let lt : b < length t = old_accepted b (inr sent) in
+        met_still durable b lt (kept.met b (was is_access b lt is) (inr sent))
+    met_more waited b is (inl stall) = elim (new_or_old is_access b is) [
+      | inl new ↦ subst (λ x. IsMet mode (t ++ e ∷ []) durable x) (sym new) (met_new durable (λ a at. kept.met a at (inl stall)) kept.drained (waited stall))
+      | inr lt ↦ met_still durable b lt (kept.met b (was is_access b lt is) (inl stall))
+    ]
 
     taken_still : (p : ℕ) → event_is is_persist (t ++ e ∷ []) p ≡ true → rank mode (t ++ e ∷ []) p < dispatched (core_at (t ++ e ∷ []) p) → Accepted buffered flight durable p
     taken_still p is below = elim (new_or_old is_persist p is) [
@@ -124,9 +137,9 @@ module _ (mode : Mode) (t : List Event) (e : Event) where
     ]
 
     -- the trace grows by one event
-    pub grows : (is_join e ≡ true → (p : ℕ) → event_is is_persist t p ≡ true → core_at t p ≡ core_of e → durable p ≡ true) → ((a : ℕ) → a < length t → conflicts (t ++ e ∷ []) a (length t) ≡ true → same_strand mode (t ++ e ∷ []) a (length t) ≡ false → AllDurableTo (t ++ e ∷ []) durable a) → Ordered mode (t ++ e ∷ []) dispatched buffered flight durable
+    pub grows : (is_join e ≡ true → (p : ℕ) → event_is is_persist t p ≡ true → core_at t p ≡ core_of e → durable p ≡ true) → (conflict ≡ Stall → (a : ℕ) → a < length t → conflicts (t ++ e ∷ []) a (length t) ≡ true → same_strand mode (t ++ e ∷ []) a (length t) ≡ false → AllDurableTo (t ++ e ∷ []) durable a) → Ordered conflict mode (t ++ e ∷ []) dispatched buffered flight durable
     grows drains waited = record {
-      links = links_still waited;
+      met = met_more waited;
       drained = joined_was durable kept.drained drains;
       persists = λ p a. event_is_kept t e is_persist p (old_accepted p a) ∙ kept.persists p a;
       within = λ core. let longer : length t ≤ length (t ++ e ∷ []) = omega (arith, length_grown t e) in omega (arith, kept.within core, items_kept core, count_mono (length t) (length (t ++ e ∷ [])) (core_event_is (is_item mode) core (t ++ e ∷ [])) longer);

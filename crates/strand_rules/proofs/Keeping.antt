@@ -11,10 +11,10 @@ use Rattle.strand_events.specs.Trace.{is_persist, event_is}
 use Rattle.strand_events.specs.Order.{held}
 use Rattle.strand_events.proofs.Prefix.{event_is_kept}
 use Rattle.strand_rules.specs.Visible.{grown}
-use Rattle.strand_rules.specs.Cycle.{State, unmarked, gone, send_after, write_after}
+use Rattle.strand_rules.specs.Cycle.{State, unmarked, gone, write_after}
 use Rattle.strand_rules.specs.Machine.{Machine, made_to}
 use Rattle.strand_rules.specs.Kept.{IsKept}
-use Rattle.strand_rules.proofs.Marked.{held_unmarked, held_within, held_set, held_other}
+use Rattle.strand_rules.proofs.Marked.{held_unmarked, held_set, held_other}
 
 grown_length : (t : List Event) (o : Option Event) → length (grown t o) ≤ length t + 1
 grown_length t None = omega arith
@@ -83,10 +83,6 @@ kept_moved m dispatched buffered flight durable kept room d b u few waiting sent
   sent = sent;
 }
 
--- a step that does nothing
-pub kept_bubble : (m : Machine) → IsKept m → m.made < m.steps → IsKept (made_to m m.state)
-kept_bubble m kept room = kept_moved m m.state.dispatched m.state.buffered m.state.flight m.state.durable kept room refl refl refl kept.few_sent kept.waiting kept.sent
-
 kept_marked : (s : State) (t : List Event) (k : ℕ) (b : Bool) → k < length s.buffered → (b ≡ true → event_is is_persist t k ≡ true) → ((p : ℕ) → held s.buffered p ≡ true → event_is is_persist t p ≡ true)
     → (p : ℕ) → held (slice_set s.buffered k b) p ≡ true → event_is is_persist t p ≡ true
 kept_marked s t k b lt is waiting p marked = elim (cases_eq p k) [
@@ -102,21 +98,6 @@ kept_item m n k true kept room lt is =
     (kept_marked m.state m.state.now.trace k true (omega (arith, kept.buffered)) (λ e. is) kept.waiting) kept.sent
 kept_item m n k false kept room lt is =
     kept_moved m _ m.state.buffered m.state.flight m.state.durable kept room (length-set _ _ _) refl refl kept.few_sent kept.waiting kept.sent
-
-sent_more : (t : List Event) (flight : List ℕ) (p : ℕ) → event_is is_persist t p ≡ true → ((i : ℕ) → i < length flight → event_is is_persist t (slice_index flight i) ≡ true)
-    → (i : ℕ) → i < length (flight ++ p ∷ []) → event_is is_persist t (slice_index (flight ++ p ∷ []) i) ≡ true
-sent_more t [] p is sent zero lt = is
-sent_more t [] p is sent (suc i) lt = absurd (omega arith)
-sent_more t (x ∷ flight) p is sent zero lt = sent zero (omega arith)
-sent_more t (x ∷ flight) p is sent (suc i) lt = sent_more t flight p is (λ k below. sent (suc k) (omega arith)) i (omega arith)
-
--- persist p was sent
-pub kept_send : (m : Machine) (p : ℕ) → IsKept m → m.made < m.steps → held m.state.buffered p ≡ true → length m.state.flight < m.config.flight
-    → IsKept (made_to m (send_after m.state (Some p)))
-kept_send m p kept room marked few =
-    kept_moved m m.state.dispatched _ _ m.state.durable kept room refl (length-set _ _ _) refl (omega (arith, length-append m.state.flight (p ∷ [])))
-    (kept_marked m.state m.state.now.trace p false (held_within m.state.buffered p marked) (λ e. absurd (true≢false (sym e))) kept.waiting)
-    (sent_more m.state.now.trace m.state.flight p (kept.waiting p marked) kept.sent)
 
 sent_less : (t : List Event) (flight : List ℕ) (j : ℕ) → j < length flight → ((i : ℕ) → i < length flight → event_is is_persist t (slice_index flight i) ≡ true)
     → (i : ℕ) → i < length (remove flight j) → event_is is_persist t (slice_index (remove flight j) i) ≡ true

@@ -41,3 +41,6 @@ pub mod OneStrand
 pub mod Reached
 pub mod PlainSteps
 pub mod Waiting
+pub mod Free
+pub mod NextWait
+pub mod Waited

@@ -5,16 +5,21 @@ use Rattle.std.proofs.lemmas.Bool.{cases_eq}
 use Rattle.strand_inputs.specs.declared.mode.Mode.{Mode}
 use Rattle.strand_events.specs.declared.event.Event.{Event}
 use Rattle.strand_base.specs.Counting.{count_below}
-use Rattle.strand_events.specs.Trace.{is_persist, core_at, word_at, event_is, core_event_is, same_strand, epoch}
-use Rattle.strand_events.specs.Order.{Set, directly_before, is_joined, IsDownwardClosed}
-use Rattle.strand_events.proofs.Chain.{Linked, settled_before}
+use Rattle.strand_events.specs.Trace.{is_persist, is_access, core_at, event_is, core_event_is}
+use Rattle.strand_events.specs.Order.{Set, is_joined, IsDownwardClosed}
+use Rattle.strand_events.proofs.Epochs.{weaker, persist_access}
+use Rattle.strand_events.proofs.Chain.{Reaches}
+use Rattle.strand_inputs.specs.declared.conflict.Conflict.{Conflict}
+use Rattle.strand_inputs.specs.declared.conflict.Conflict.TheVariants.{Stall}
+use Rattle.strand_events.proofs.Counted.{Counts, IsMet}
+use Rattle.strand_events.proofs.Covered.{waits_count}
 use Rattle.strand_rules.specs.Cycle.{is_item}
 use Rattle.strand_rules.specs.Parts.{Accepted, Sent, Older, Lower}
 use Rattle.strand_rules.proofs.Ranks.{rank}
 
-pub record Ordered (mode : Mode) (t : List Event) (dispatched : ℕ → ℕ) (buffered : Set) (flight : List ℕ) (durable : Set) : Type 0 where
-  -- what direct order of two accesses means for the persists up to the first
-  pub links : (a b : ℕ) → directly_before mode t a b ≡ true → Linked mode t durable a b
+pub record Ordered (conflict : Conflict) (mode : Mode) (t : List Event) (dispatched : ℕ → ℕ) (buffered : Set) (flight : List ℕ) (durable : Set) : Type 0 where
+  -- the wait of each persist in flight or durable is met, and under stall that of every access
+  pub met : (b : ℕ) → event_is is_access t b ≡ true → (conflict ≡ Stall) ⊎ Sent flight durable b → IsMet mode t durable b
   -- what a core persisted before its last join is durable
   pub drained : (p : ℕ) → is_joined t p ≡ true → durable p ≡ true
   -- the parts hold exactly the dispatched persists
@@ -28,10 +33,10 @@ pub record Ordered (mode : Mode) (t : List Event) (dispatched : ℕ → ℕ) (bu
   pub in_flight : (i p q : ℕ) → slice_get flight i ≡ Some q → Older mode t p q → (durable p ≡ true) ⊎ ((h : ℕ) × (h < i) × (slice_get flight h ≡ Some p))
 
 -- the durable set is downward-closed
-pub closed : (mode : Mode) (t : List Event) (dispatched : ℕ → ℕ) (buffered : Set) (flight : List ℕ) (durable : Set) → Ordered mode t dispatched buffered flight durable → IsDownwardClosed mode t durable
-closed mode t dispatched buffered flight durable kept p q is before done = go (settled_before mode t durable kept.links p q is before)
+pub closed : (conflict : Conflict) (mode : Mode) (t : List Event) (dispatched : ℕ → ℕ) (buffered : Set) (flight : List ℕ) (durable : Set) → Ordered conflict mode t dispatched buffered flight durable → IsDownwardClosed mode t durable
+closed conflict mode t dispatched buffered flight durable kept p q is before done = go (waits_count mode t p q is before)
   where
-    go : (durable p ≡ true) ⊎ ((same_strand mode t p q ≡ true) × (p ≤ q) × ((epoch mode t p < epoch mode t q) ⊎ (word_at t p ≡ word_at t q))) → durable p ≡ true
-    go (inl h) = h
+    go : Reaches mode t (λ x b. Counts mode t b x) p q → durable p ≡ true
+    go (inl counted) = kept.met q (weaker is_persist is_access persist_access t q (kept.persists q (inr (inr done)))) (inr (inr done)) p is counted
     go (inr (same, le, inl low)) = kept.lower p q (inr done) (record { persist = is; strand = same; epoch = low })
     go (inr (same, le, inr word)) = elim (cases_eq p q) [ inl e ↦ ap durable e ∙ done | inr ne ↦ kept.older p q done (record { persist = is; earlier = grind arith; strand = same; word = word }) ]

@@ -1,13 +1,13 @@
 -- What every run keeps of its dispatched persists, part by part.
-use Rattle.std.proofs.Common.{◌≡◌, ℕ, ◌<◌, true, inl, inr}
+use Rattle.std.proofs.Common.{◌≡◌, ℕ, ◌<◌, true}
 use Rattle.std.specs.Prelude.{nat_lt}
 use Rattle.std.proofs.lemmas.Bool.{and_parts, and_from, ltb-true, lt-ltb}
 use Rattle.strand_inputs.specs.Settings.{Settings}
 use Rattle.strand_events.specs.Trace.{is_persist, core_at, event_is, core_event_is}
 use Rattle.strand_events.specs.Order.{held}
-use Rattle.strand_events.proofs.Chain.{settled_before}
+use Rattle.strand_events.proofs.Meeting.{met_from}
 use Rattle.strand_rules.specs.Cycle.{State, is_item, gone, is_dispatched, is_accepted}
-use Rattle.strand_rules.specs.Parts.{AreParts, AreInOrder, AreSettled}
+use Rattle.strand_rules.specs.Parts.{AreParts, AreInOrder, AreMet}
 use Rattle.strand_rules.proofs.Ranks.{rank, persist_ranks}
 use Rattle.strand_rules.proofs.Good.{IsGood}
 
@@ -39,8 +39,5 @@ good_parts g s good = record {
 pub good_in_order : (g : Settings) (s : State) → IsGood g s → AreInOrder g.mode s.now.trace s.flight (held s.durable)
 good_in_order g s good = record { lower = good.ordered.lower; older = good.ordered.older; in_flight = good.ordered.in_flight }
 
-pub good_settled : (g : Settings) (s : State) → IsGood g s → AreSettled g.mode s.now.trace (held s.durable)
-good_settled g s good p b is before = elim (settled_before g.mode s.now.trace (held s.durable) good.ordered.links p b is before) [
-  | inl done ↦ inl done
-  | inr (same, le, why) ↦ inr (same, why)
-]
+pub good_met : (g : Settings) (s : State) → IsGood g s → AreMet g.conflict g.mode s.now.trace s.flight (held s.durable)
+good_met g s good b is must = met_from g.mode s.now.trace (held s.durable) b (good.ordered.met b is must)

@@ -1,11 +1,11 @@
 -- What a step of the pipeline leaves of the plain machine, which has its memory beside it.
 use Rattle.std.proofs.Common.{◌≡◌, ℕ, ◌+◌, Bool, true, false, length, refl, sym, ap, subst, ◌∙◌}
-use Rattle.std.specs.Prelude.{Some, None, slice_get, ◌==◌, if◌then◌else◌, ◌&&◌}
+use Rattle.std.specs.Prelude.{◌≤◌, Some, None, slice_get, vec_capacity, ◌==◌, if◌then◌else◌, ◌&&◌}
 use Rattle.std.specs.declared.option.Option.{Option}
 use Rattle.std.proofs.lemmas.Bool.{true≢false}
 use Rattle.strand_inputs.specs.Settings.{Settings}
 use Rattle.strand_inputs.specs.declared.step.Step.{Step}
-use Rattle.strand_inputs.specs.declared.step.Step.TheVariants.{Dispatch, Send}
+use Rattle.strand_inputs.specs.declared.step.Step.TheVariants.{Core, Dispatch, Send, Write}
 use Rattle.strand_events.specs.Trace.{event_is, is_persist, is_new_strand, strand_number}
 use Rattle.strand_modules.specs.Bank.{BankSeen}
 use Rattle.strand_rules.specs.declared.plain_machine.PlainMachine.TheInside.{Inside}
@@ -13,8 +13,10 @@ use Rattle.strand_rules.specs.declared.turn.Cause.{Cause}
 use Rattle.strand_rules.specs.declared.turn.Cause.TheVariants as causes
 use Rattle.strand_rules.specs.declared.turn.Turn.{Turn}
 use Rattle.strand_rules.specs.declared.turn.Turn.TheVariants.{Done, Bubble, Fault}
-use Rattle.strand_rules.specs.Cycle.{State, turn, item_turn, send_turn, ring_use, buffer_of, buffer_busy, front, eligible, IsReached}
+use Rattle.strand_rules.specs.Cycle.{State, turn, item_turn, send_turn, ring_use, buffer_of, buffer_busy, front, eligible, item_after, send_after, write_after, done_after, after_turn, after, IsReached}
 use Rattle.strand_rules.specs.KeptPlain.{IsHeld}
+use Rattle.strand_rules.specs.Next.{AreKeptWaits}
+use Rattle.strand_rules.specs.Visible.{Program, Visible}
 use Rattle.strand_rules.specs.Machine.{Machine, Steps, StoresOk, stepped, stored_by}
 use Rattle.strand_rules.specs.Pipeline.{state_with, with_memory}
 use Rattle.strand_rules.proofs.Reached.{reached_after}
@@ -52,13 +54,43 @@ dispatch_steps old new bank n t is same = turned_steps old new bank (Dispatch n)
 pub send_steps : (old new : Machine) (bank : BankSeen) (n b j : ℕ) (t : Turn) → t ≡ turn old.config old.program old.state (Send n b j) → new ≡ stepped old (Send n b j) → Steps old new bank bank (Send n b j) t
 send_steps old new bank n b j t is same = turned_steps old new bank (Send n b j) t refl (send_safe old.config old.state (slice_get (eligible old.config old.state n b) j)) is same
 
--- the memory stays, and a run reaches the state after the step
+-- what is seen stays
+item_stays : (s : State) (n : ℕ) (o : Option ℕ) → (item_after s n o).now ≡ s.now
+item_stays s n None = refl
+item_stays s n (Some k) = refl
+
+send_stays : (s : State) (o : Option ℕ) → (send_after s o).now ≡ s.now
+send_stays s None = refl
+send_stays s (Some p) = refl
+
+write_stays : (s : State) (j : ℕ) (o : Option ℕ) → (write_after s j o).now ≡ s.now
+write_stays s j None = refl
+write_stays s j (Some p) = refl
+
+done_stays : (g : Settings) (p : Program) (s : State) (step : Step) → MovesNoCore step → (done_after g p s step).now ≡ s.now
+done_stays g p s (Core n) moves = absurd moves
+done_stays g p s (Dispatch n) moves = item_stays s n (front g s n)
+done_stays g p s (Send n b j) moves = send_stays s (slice_get (eligible g s n b) j)
+done_stays g p s (Write j) moves = write_stays s j (slice_get s.flight j)
+
+turned_stays : (t : Turn) (old new : State) → new.now ≡ old.now → (after_turn t old new).now ≡ old.now
+turned_stays Done old new same = same
+turned_stays (Bubble cause) old new same = refl
+turned_stays (Fault m) old new same = refl
+
+after_stays : (g : Settings) (p : Program) (s : State) (step : Step) → MovesNoCore step → (after g p s step).now ≡ s.now
+after_stays g p s step moves = turned_stays (turn g p s step) s (done_after g p s step) (done_stays g p s step moves)
+
+-- the memory and the waits stay, and a run reaches the state after the step
 module _ (m : Inside) (new : Machine) (step : Step) (moves : MovesNoCore step) (held : IsHeld m) where
   pub stepped_held : new ≡ stepped m.pipeline step → IsHeld (record m { pipeline = new })
   stepped_held same = record {
     extents = held.extents ∙ sym (ap (λ (m : Machine). m.program.sizes) same);
     reached = subst (λ (m : Machine). IsReached m.config m.program m.state) (sym (ap (with_memory m.memory) same ∙ stepped_with m.memory m.pipeline step moves))
         (reached_after m.pipeline.config m.pipeline.program (state_with m.memory m.pipeline.state) step held.reached);
+    waits = subst (λ (new : Machine). AreKeptWaits new.config.conflict new.config.mode new.state.now.trace m.waits.items) (sym same)
+        (subst (λ (v : Visible). AreKeptWaits m.pipeline.config.conflict m.pipeline.config.mode v.trace m.waits.items) (sym (after_stays m.pipeline.config m.pipeline.program m.pipeline.state step moves)) held.waits);
+    waits_room = subst (λ (new : Machine). new.steps ≤ vec_capacity m.waits) (sym same) held.waits_room;
   }
 
   pub steps_held : (bank bank' : BankSeen) (t : Turn) → Steps m.pipeline new bank bank' step t → IsHeld (record m { pipeline = new })

@@ -6,16 +6,19 @@ use Rattle.std.proofs.lemmas.Option.{slice_get_within, same_Some}
 use Rattle.strand_inputs.specs.declared.mode.Mode.{Mode}
 use Rattle.strand_events.specs.declared.event.Event.{Event}
 use Rattle.strand_base.proofs.Counting.{get_more, get_last, at_or_below}
-use Rattle.strand_events.specs.Trace.{core_at}
+use Rattle.strand_events.specs.Trace.{is_access, core_at, event_is}
 use Rattle.strand_events.specs.Order.{Set}
 use Rattle.strand_events.proofs.Epochs.{strand_parts}
 use Rattle.strand_rules.specs.Parts.{Accepted, Sent, InFlight, Older, Lower}
+use Rattle.strand_inputs.specs.declared.conflict.Conflict.{Conflict}
+use Rattle.strand_inputs.specs.declared.conflict.Conflict.TheVariants.{Stall}
+use Rattle.strand_events.proofs.Counted.{IsMet}
 use Rattle.strand_rules.proofs.Ordered.{Ordered}
 use Rattle.strand_rules.proofs.Ranks.{rank, rank_earlier}
 use Rattle.strand_rules.proofs.Sets.{without, without_old, without_other}
 
-module _ (mode : Mode) (t : List Event) (dispatched : ℕ → ℕ) (buffered : Set) (flight : List ℕ) (durable : Set) (kept : Ordered mode t dispatched buffered flight durable) where
-  module _ (p : ℕ) (is : buffered p ≡ true) (epochs : (x : ℕ) → Lower mode t x p → durable x ≡ true) (words : (x : ℕ) → Older mode t x p → buffered x ≡ true → ⊥) where
+module _ (conflict : Conflict) (mode : Mode) (t : List Event) (dispatched : ℕ → ℕ) (buffered : Set) (flight : List ℕ) (durable : Set) (kept : Ordered conflict mode t dispatched buffered flight durable) where
+  module _ (p : ℕ) (is : buffered p ≡ true) (own : IsMet mode t durable p) (epochs : (x : ℕ) → Lower mode t x p → durable x ≡ true) (words : (x : ℕ) → Older mode t x p → buffered x ≡ true → ⊥) where
     in_new_flight : (x : ℕ) → InFlight (flight ++ p ∷ []) x → (x ≡ p) ⊎ InFlight flight x
     in_new_flight x (i, at) = elim (cases_eq i (length flight)) [
       | inl e ↦ inl (same_Some x p (sym at ∙ ap (slice_get (flight ++ p ∷ [])) e ∙ get_last flight p))
@@ -37,6 +40,11 @@ module _ (mode : Mode) (t : List Event) (dispatched : ℕ → ℕ) (buffered : S
     still_held x (inl b) = elim (cases_eq x p) [ inl e ↦ inr (inl (length flight, get_last flight p ∙ ap Some (sym e))) | inr ne ↦ inl (without_other p buffered x ne b) ]
     still_held x (inr (inl f)) = inr (inl (still_in_flight x f))
     still_held x (inr (inr d)) = inr (inr d)
+
+    met' : (b : ℕ) → event_is is_access t b ≡ true → (conflict ≡ Stall) ⊎ Sent (flight ++ p ∷ []) durable b → IsMet mode t durable b
+    met' b is' (inl stall) = kept.met b is' (inl stall)
+    met' b is' (inr (inr d)) = kept.met b is' (inr (inr d))
+    met' b is' (inr (inl f)) = elim (in_new_flight b f) [ inl e ↦ subst (λ x. IsMet mode t durable x) (sym e) own | inr old ↦ kept.met b is' (inr (inl old)) ]
 
     lower' : (x q : ℕ) → Sent (flight ++ p ∷ []) durable q → Lower mode t x q → durable x ≡ true
     lower' x q (inl f) l = elim (in_new_flight q f) [ inl e ↦ epochs x (subst (λ y. Lower mode t x y) e l) | inr old ↦ kept.lower x q (inl old) l ]
@@ -69,9 +77,9 @@ module _ (mode : Mode) (t : List Event) (dispatched : ℕ → ℕ) (buffered : S
           ]
     ]
 
-    pub sends : Ordered mode t dispatched (without p buffered) (flight ++ p ∷ []) durable
+    pub sends : Ordered conflict mode t dispatched (without p buffered) (flight ++ p ∷ []) durable
     sends = record {
-      links = kept.links;
+      met = met';
       drained = kept.drained;
       persists = λ x a. kept.persists x (was_held x a);
       within = kept.within;

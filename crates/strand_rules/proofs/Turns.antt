@@ -1,5 +1,5 @@
 -- What a turn that is Done has seen.
-use Rattle.std.proofs.Common.{◌≡◌, ℕ, ◌+◌, ◌<◌, Bool, true, false, ◌&&◌, List, [], ◌∷◌, ◌++◌, length, refl, ap, arith}
+use Rattle.std.proofs.Common.{◌≡◌, ℕ, ◌+◌, ◌<◌, Bool, true, false, ◌&&◌, ◌||◌, List, [], ◌∷◌, ◌++◌, length, refl, ap, arith}
 use Rattle.std.specs.Prelude.{if◌then◌else◌, not, ◌==◌}
 use Rattle.std.proofs.lemmas.Bool.{and_from, or_parts, eq-eqb, true≢false, false≢true}
 use Rattle.strand_base.proofs.Counting.{any_false}
@@ -13,7 +13,9 @@ use Rattle.strand_rules.specs.declared.turn.Cause.{Cause}
 use Rattle.strand_rules.specs.declared.turn.Cause.TheVariants as causes
 use Rattle.strand_rules.specs.declared.turn.Turn.{Turn}
 use Rattle.strand_rules.specs.declared.turn.Turn.TheVariants.{Done, Bubble, Fault}
-use Rattle.strand_rules.specs.Cycle.{State, queued, some_wait, must_wait, join_waits, is_item, event_turn}
+use Rattle.strand_rules.specs.Cycle.{State, queued, some_wait, must_wait, join_waits, is_item, join_unmet, access_waits, event_turn}
+use Rattle.strand_inputs.specs.declared.conflict.Conflict.{Conflict}
+use Rattle.strand_inputs.specs.declared.conflict.Conflict.TheVariants.{Stall, Tag}
 
 abbrev is_bubble : Turn → Bool
 is_bubble (Bubble cause) = true
@@ -41,16 +43,24 @@ so_not false y h e = absurd (false≢true e)
 pub none_wait : (t : List Event) (durable : Set) (core n : ℕ) → some_wait t durable core n ≡ false → (p : ℕ) → event_is is_persist t p ≡ true → core_at t p ≡ core → p < n → durable p ≡ true
 none_wait t durable core n none p is c lt = then_so (core_event_is is_persist core t p) (durable p) (any_false n (λ p. core_event_is is_persist core t p && not (durable p)) none p lt) (and_from (event_is is_persist t p) (core_at t p == core) is (eq-eqb (core_at t p) core c))
 
+access_seen : (conflict : Conflict) (mode : Mode) (t : List Event) (durable : Set) (e : Event) → access_waits conflict mode t durable e ≡ false → conflict ≡ Stall → is_access e ≡ true
+    → must_wait mode (t ++ e ∷ []) durable (length t) ≡ false
+access_seen Stall mode t durable e h stall access = so_not (is_access e) (must_wait mode (t ++ e ∷ []) durable (length t)) h access
+access_seen Tag mode t durable e h stall access = absurd (true≢false (ap (λ c. elim c [ Tag ↦ true | Stall ↦ false ]) stall))
+
 pub event_done : (g : Settings) (s : State) (n : ℕ) (e : Event) → event_turn g s n e ≡ Done
     → (is_join e ≡ true → some_wait s.now.trace (held s.durable) n (length s.now.trace) ≡ false)
-    × (is_access e ≡ true → must_wait g.mode (s.now.trace ++ e ∷ []) (held s.durable) (length s.now.trace) ≡ false)
+    × (g.conflict ≡ Stall → is_access e ≡ true → must_wait g.mode (s.now.trace ++ e ∷ []) (held s.durable) (length s.now.trace) ≡ false)
 event_done g s n e done =
-    let must : Bool = must_wait g.mode (s.now.trace ++ e ∷ []) (held s.durable) (length s.now.trace) in
+    let must : Bool = access_waits g.conflict g.mode s.now.trace (held s.durable) e in
     let crowded : Bool = is_item g.mode e && (queued g s n == g.queue) in
-    let one = if_done (is_join e && join_waits g s n) causes.Join (if is_access e && must then Bubble causes.Conflict else if crowded then Bubble causes.Queue else Done) done in
-    let two = if_done (is_access e && must) causes.Conflict (if crowded then Bubble causes.Queue else Done) one.1 in (
-      λ join. (or_parts (not (queued g s n == 0)) (some_wait s.now.trace (held s.durable) n (length s.now.trace)) (so_not (is_join e) (join_waits g s n) one.0 join)).1,
-      λ access. so_not (is_access e) must two.0 access,
+    let some : Bool = some_wait s.now.trace (held s.durable) n (length s.now.trace) in
+    let one = if_done (is_join e && join_waits g s n) causes.Join (if must then Bubble causes.Conflict else if crowded then Bubble causes.Queue else Done) done in
+    let two = if_done must causes.Conflict (if crowded then Bubble causes.Queue else Done) one.1 in (
+      λ join.
+          let none = so_not (is_join e) (join_waits g s n) one.0 join in
+          (or_parts (not (queued g s n == 0)) some (or_parts (not (queued g s n == 0) || some) (join_unmet g.conflict g.mode s.now.trace (held s.durable) n) none).0).1,
+      λ stall access. access_seen g.conflict g.mode s.now.trace (held s.durable) e two.0 stall access,
     )
 
 pub waited : (mode : Mode) (t : List Event) (durable : Set) (b : ℕ) → must_wait mode t durable b ≡ false → (a : ℕ) → a < b → conflicts t a b ≡ true → same_strand mode t a b ≡ false → AllDurableTo t durable a

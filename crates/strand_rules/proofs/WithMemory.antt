@@ -34,16 +34,6 @@ kept_with memory m kept = record {
   sent = kept.sent;
 }
 
-pub runs_with : (memory : Memory) (m : Machine) (n : ℕ) (effect : Effect) → Runs m n effect → Runs (with_memory memory m) n effect
-runs_with memory m n effect runs = record {
-  core = runs.core;
-  there = runs.there;
-  running = runs.running;
-  effect_is = runs.effect_is;
-  register = runs.register;
-  aligned = runs.aligned;
-}
-
 pub runs_without : (memory : Memory) (m : Machine) (n : ℕ) (effect : Effect) → Runs (with_memory memory m) n effect → Runs m n effect
 runs_without memory m n effect runs = record {
   core = runs.core;

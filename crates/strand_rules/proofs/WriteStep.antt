@@ -5,11 +5,13 @@ use Rattle.std.proofs.lemmas.Bool.{cases_eq, cases_order, cases_lt}
 use Rattle.std.proofs.lemmas.Option.{same_Some}
 use Rattle.strand_inputs.specs.declared.mode.Mode.{Mode}
 use Rattle.strand_events.specs.declared.event.Event.{Event}
-use Rattle.strand_events.specs.Trace.{word_at}
+use Rattle.strand_events.specs.Trace.{is_access, word_at, event_is}
 use Rattle.strand_events.specs.Order.{Set}
-use Rattle.strand_events.proofs.Chain.{Linked}
 use Rattle.strand_rules.specs.Parts.{Accepted, Sent, InFlight, Older}
 use Rattle.strand_rules.proofs.Sets.{with_, with_cases, with_same, with_old}
+use Rattle.strand_inputs.specs.declared.conflict.Conflict.{Conflict}
+use Rattle.strand_inputs.specs.declared.conflict.Conflict.TheVariants.{Stall}
+use Rattle.strand_events.proofs.Counted.{IsMet}
 use Rattle.strand_rules.proofs.Ordered.{Ordered}
 
 -- the elements after one is removed
@@ -27,7 +29,7 @@ removed_above (x ∷ xs) zero i le = refl
 removed_above (x ∷ xs) (suc j) zero le = absurd (omega arith)
 removed_above (x ∷ xs) (suc j) (suc i) le = removed_above xs j i (omega arith)
 
-module _ (mode : Mode) (t : List Event) (dispatched : ℕ → ℕ) (buffered : Set) (flight : List ℕ) (durable : Set) (kept : Ordered mode t dispatched buffered flight durable) (j p : ℕ) (at_j : slice_get flight j ≡ Some p) (alone : (h x : ℕ) → h < j → slice_get flight h ≡ Some x → word_at t x ≡ word_at t p → ⊥) where
+module _ (conflict : Conflict) (mode : Mode) (t : List Event) (dispatched : ℕ → ℕ) (buffered : Set) (flight : List ℕ) (durable : Set) (kept : Ordered conflict mode t dispatched buffered flight durable) (j p : ℕ) (at_j : slice_get flight j ≡ Some p) (alone : (h x : ℕ) → h < j → slice_get flight h ≡ Some x → word_at t x ≡ word_at t p → ⊥) where
   -- where a request that is left stood before
   place : (i x : ℕ) → slice_get (remove flight j) i ≡ Some x → ((i < j) × (slice_get flight i ≡ Some x)) ⊎ ((j ≤ i) × (slice_get flight (suc i) ≡ Some x))
   place i x at = elim (cases_lt i j) [
@@ -61,13 +63,16 @@ module _ (mode : Mode) (t : List Event) (dispatched : ℕ → ℕ) (buffered : S
   still_held x (inr (inl f)) = elim (cases_eq x p) [ inl e ↦ inr (inr (with_same p durable x e)) | inr ne ↦ inr (inl (still_in_flight x ne f)) ]
   still_held x (inr (inr d)) = inr (inr (with_old p durable x d))
 
-  linked_still : (a b : ℕ) → Linked mode t durable a b → Linked mode t (with_ p durable) a b
-  linked_still a b (inl same) = inl same
-  linked_still a b (inr all) = inr (λ x is c le. with_old p durable x (all x is c le))
-
   was_sent : (q : ℕ) → Sent (remove flight j) (with_ p durable) q → Sent flight durable q
   was_sent q (inl f) = inl (was_in_flight q f)
   was_sent q (inr d) = elim (with_cases p durable q d) [ inl e ↦ inl (j, at_j ∙ ap Some (sym e)) | inr old ↦ inr old ]
+
+  must_be_met : (b : ℕ) → (conflict ≡ Stall) ⊎ Sent (remove flight j) (with_ p durable) b → (conflict ≡ Stall) ⊎ Sent flight durable b
+  must_be_met b (inl stall) = inl stall
+  must_be_met b (inr sent) = inr (was_sent b sent)
+
+  met' : (b : ℕ) → event_is is_access t b ≡ true → (conflict ≡ Stall) ⊎ Sent (remove flight j) (with_ p durable) b → IsMet mode t (with_ p durable) b
+  met' b is must x isx counted = with_old p durable x (kept.met b is (must_be_met b must) x isx counted)
 
   older' : (x q : ℕ) → with_ p durable q ≡ true → Older mode t x q → with_ p durable x ≡ true
   older' x q d o = elim (with_cases p durable q d) [
@@ -99,9 +104,9 @@ module _ (mode : Mode) (t : List Event) (dispatched : ℕ → ℕ) (buffered : S
     | inr (ge, is) ↦ elim (kept.in_flight (suc i) x q is o) [ inl d ↦ inl (with_old p durable x d) | inr (h, less, there) ↦ moved (suc i) h x less there i (inr (refl, ge)) ]
   ]
 
-  pub writes : Ordered mode t dispatched buffered (remove flight j) (with_ p durable)
+  pub writes : Ordered conflict mode t dispatched buffered (remove flight j) (with_ p durable)
   writes = record {
-    links = λ a b direct. linked_still a b (kept.links a b direct);
+    met = met';
     drained = λ x joined. with_old p durable x (kept.drained x joined);
     persists = λ x a. kept.persists x (was_held x a);
     within = kept.within;

@@ -14,6 +14,9 @@ use Rattle.strand_events.specs.declared.event.Event.{Event}
 use Rattle.strand_events.specs.Trace.{is_access, is_persist, is_barrier, is_new_strand, is_join, core_at, word_at, value_at, event_is, core_event_is, strand_number, same_strand, epoch}
 use Rattle.strand_events.specs.Order.{Set, held, conflicts}
 use Rattle.strand_base.specs.Places.{place_of}
+use Rattle.strand_events.specs.Waits.{is_met}
+use Rattle.strand_inputs.specs.declared.conflict.Conflict.{Conflict}
+use Rattle.strand_inputs.specs.declared.conflict.Conflict.TheVariants.{Stall, Tag}
 use Rattle.strand_rules.specs.declared.turn.Cause.TheVariants as causes
 use Rattle.strand_rules.specs.declared.turn.Turn.{Turn}
 use Rattle.strand_rules.specs.declared.turn.Turn.TheVariants.{Done, Bubble, Fault}
@@ -70,15 +73,29 @@ some_wait t durable n end = any_below end (λ p. core_event_is is_persist n t p 
 abbrev pub must_wait : Mode → List Event → Set → ℕ → Bool
 must_wait mode t durable b = any_below b (λ a. conflicts t a b && not (same_strand mode t a b) && some_wait t durable (core_at t a) (a + 1))
 
--- core n's queue isn't empty, or some persist of core n isn't durable
+-- the wait of some access of core n isn't met
+abbrev pub some_unmet : Mode → List Event → Set → ℕ → Bool
+some_unmet mode t durable n = any_below (length t) (λ a. core_event_is is_access n t a && not (is_met mode t durable a))
+
+-- under tag a join waits for the waits of its core's accesses
+abbrev pub join_unmet : Conflict → Mode → List Event → Set → ℕ → Bool
+join_unmet Stall mode t durable n = false
+join_unmet Tag mode t durable n = some_unmet mode t durable n
+
+-- core n's queue isn't empty, or some persist of core n isn't durable, or under tag the wait of some access of core n isn't met
 abbrev pub join_waits : Settings → State → ℕ → Bool
-join_waits g s n = not (queued g s n == 0) || some_wait s.now.trace (held s.durable) n (length s.now.trace)
+join_waits g s n = not (queued g s n == 0) || some_wait s.now.trace (held s.durable) n (length s.now.trace) || join_unmet g.conflict g.mode s.now.trace (held s.durable) n
+
+-- under stall an access waits for what the accesses of other strands that conflict with it wait for
+abbrev pub access_waits : Conflict → Mode → List Event → Set → Event → Bool
+access_waits Stall mode t durable e = is_access e && must_wait mode (t ++ e ∷ []) durable (length t)
+access_waits Tag mode t durable e = false
 
 -- an instruction of core n that makes the event e
 abbrev pub event_turn : Settings → State → ℕ → Event → Turn
 event_turn g s n e =
     if is_join e && join_waits g s n then Bubble causes.Join
-    else if is_access e && must_wait g.mode (s.now.trace ++ e ∷ []) (held s.durable) (length s.now.trace) then Bubble causes.Conflict
+    else if access_waits g.conflict g.mode s.now.trace (held s.durable) e then Bubble causes.Conflict
     else if is_item g.mode e && (queued g s n == g.queue) then Bubble causes.Queue
     else Done
 
@@ -140,8 +157,13 @@ word_waits g s p = any_below p (λ q. held s.buffered q && same_strand g.mode s.
 abbrev pub is_in_buffer : Settings → State → ℕ → ℕ → ℕ → Bool
 is_in_buffer g s n b p = held s.buffered p && (core_at s.now.trace p == n) && (buffer_of g (strand_number g.mode s.now.trace p) == b)
 
+-- under tag a persist waits in its buffer until its wait is met
+abbrev pub persist_unmet : Conflict → Mode → List Event → Set → ℕ → Bool
+persist_unmet Stall mode t durable p = false
+persist_unmet Tag mode t durable p = not (is_met mode t durable p)
+
 abbrev pub is_eligible : Settings → State → ℕ → ℕ → ℕ → Bool
-is_eligible g s n b p = is_in_buffer g s n b p && not (epoch_waits g s p) && not (word_waits g s p)
+is_eligible g s n b p = is_in_buffer g s n b p && not (epoch_waits g s p) && not (word_waits g s p) && not (persist_unmet g.conflict g.mode s.now.trace (held s.durable) p)
 
 -- the eligible persists of buffer b of core n, in trace order
 abbrev pub eligible : Settings → State → ℕ → ℕ → List ℕ

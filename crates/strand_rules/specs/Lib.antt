@@ -6,6 +6,7 @@ pub mod Pipeline
 pub mod Run
 pub mod Bubbles
 pub mod Looking
+pub mod Next
 pub mod Kept
 pub mod KeptPlain
 pub mod Parts

@@ -2,6 +2,7 @@
 use Rattle.std.specs.Prelude.{ℕ, suc, ◌+◌, ◌%◌, Bool, true, false, ◌&&◌, ◌||◌, not, ◌==◌, List, [], ◌∷◌, ◌++◌, length, slice_set, Some, None, if◌then◌else◌}
 use Rattle.std.specs.declared.option.Option.{Option}
 use Rattle.strand_inputs.specs.Settings.{Settings}
+use Rattle.strand_inputs.specs.declared.conflict.Conflict.{Conflict}
 use Rattle.strand_inputs.specs.declared.mode.Mode.{Mode}
 use Rattle.strand_inputs.specs.declared.mode.Mode.TheVariants.{Strict, Epoch, Strand}
 use Rattle.strand_base.specs.Counting.{any_below, count_below}
@@ -16,9 +17,13 @@ next_strand Strict t n = 0
 next_strand Epoch t n = 0
 next_strand Strand t n = count_below (length t) (core_event_is is_new_strand n t)
 
+-- event a is of the strand of the next event e
+abbrev pub is_in_next : Mode → List Event → Event → ℕ → Bool
+is_in_next mode t e a = (core_at t a == core_of e) && (strand_number mode t a == next_strand mode t (core_of e))
+
 -- access a is of another strand than the next event e, and conflicts with it
 abbrev pub opposes : Mode → List Event → Event → ℕ → Bool
-opposes mode t e a = event_is is_access t a && is_access e && (word_at t a == word_of e) && (event_is is_store t a || is_store e) && not ((core_at t a == core_of e) && (strand_number mode t a == next_strand mode t (core_of e)))
+opposes mode t e a = event_is is_access t a && is_access e && (word_at t a == word_of e) && (event_is is_store t a || is_store e) && not (is_in_next mode t e a)
 
 -- such an access, and a persist of its core up to there isn't durable
 abbrev pub holds_up : Mode → List Event → Set → Event → ℕ → Bool
@@ -27,9 +32,9 @@ holds_up mode t durable e a = opposes mode t e a && some_wait t durable (core_at
 abbrev pub must_stall : Mode → List Event → Set → Event → Bool
 must_stall mode t durable e = any_below (length t) (holds_up mode t durable e)
 
--- settings with this mode and so many buffers
-abbrev pub settings_of : Mode → ℕ → Settings
-settings_of mode buffers = record { mode = mode; queue = 0; buffers = buffers; ring = 0; flight = 0; sets = 0; ways = 0 }
+-- settings with this mode, so many buffers and this rule of conflicts
+abbrev pub settings_of : Mode → ℕ → Conflict → Settings
+settings_of mode buffers conflict = record { mode = mode; queue = 0; buffers = buffers; ring = 0; flight = 0; sets = 0; ways = 0; conflict = conflict }
 
 -- event p is a persist of core n in the strand of event k
 abbrev pub is_of_strand : Mode → List Event → ℕ → ℕ → ℕ → Bool

@@ -3,8 +3,11 @@ use Rattle.std.specs.Prelude.{◌≡◌, ℕ, ◌<◌, ◌≤◌, ◌⊎◌, ◌
 use Rattle.strand_inputs.specs.declared.mode.Mode.{Mode}
 use Rattle.strand_inputs.specs.Settings.{Settings}
 use Rattle.strand_events.specs.declared.event.Event.{Event}
-use Rattle.strand_events.specs.Trace.{is_persist, core_at, word_at, event_is, strand_number, same_strand, epoch}
+use Rattle.strand_events.specs.Trace.{is_persist, is_access, core_at, word_at, event_is, strand_number, same_strand, epoch}
 use Rattle.strand_events.specs.Order.{Set, held, Before}
+use Rattle.strand_events.specs.Waits.{wait_counts, is_met}
+use Rattle.strand_inputs.specs.declared.conflict.Conflict.{Conflict}
+use Rattle.strand_inputs.specs.declared.conflict.Conflict.TheVariants.{Stall}
 use Rattle.strand_rules.specs.Cycle.{State, is_accepted, ring_use, buffer_of}
 
 -- event p is a request in flight
@@ -50,10 +53,14 @@ pub record AreInOrder (mode : Mode) (t : List Event) (flight : List ℕ) (durabl
   pub older : (p q : ℕ) → durable q ≡ true → Older mode t p q → durable p ≡ true
   pub in_flight : (i p q : ℕ) → slice_get flight i ≡ Some q → Older mode t p q → (durable p ≡ true) ⊎ ((h : ℕ) × (h < i) × (slice_get flight h ≡ Some p))
 
--- a persist before access b is durable, or it is of b's strand and has a lower epoch or b's word
-abbrev pub AreSettled : Mode → List Event → Set → Type 0
-AreSettled mode t durable = (p b : ℕ) → event_is is_persist t p ≡ true → Before mode t p b
-    → (durable p ≡ true) ⊎ ((same_strand mode t p b ≡ true) × ((epoch mode t p < epoch mode t b) ⊎ (word_at t p ≡ word_at t b)))
+-- a persist before access b is one that b's wait counts, or it is of b's strand and has a lower epoch or b's word
+abbrev pub AreSettled : Mode → List Event → Type 0
+AreSettled mode t = (p b : ℕ) → event_is is_persist t p ≡ true → Before mode t p b
+    → (wait_counts mode t b p ≡ true) ⊎ ((same_strand mode t p b ≡ true) × ((epoch mode t p < epoch mode t b) ⊎ (word_at t p ≡ word_at t b)))
+
+-- the wait of each persist in flight or durable is met, and under stall that of every access
+abbrev pub AreMet : Conflict → Mode → List Event → List ℕ → Set → Type 0
+AreMet conflict mode t flight durable = (b : ℕ) → event_is is_access t b ≡ true → (conflict ≡ Stall) ⊎ Sent flight durable b → is_met mode t durable b ≡ true
 
 -- persist p was dispatched and isn't durable
 abbrev pub IsOpen : Settings → State → ℕ → Type 0

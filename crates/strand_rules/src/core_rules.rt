@@ -3,7 +3,7 @@ ghost use Rattle.std.specs.Prelude.{◌≡◌, ◌<◌, ◌≤◌, ◌+◌, ◌^
 ghost use Rattle.strand_events.specs.Order.{held};
 ghost use Rattle.strand_events.specs.Trace.{core_at, core_of};
 ghost use Rattle.strand_rules.specs.Cycle.{some_wait, must_wait, items};
-ghost use Rattle.strand_rules.specs.Looking.{next_strand, opposes};
+ghost use Rattle.strand_rules.specs.Looking.{next_strand, is_in_next, opposes};
 
 use crate::items::{is_core_item, is_core_persist};
 use strand_events::{Event, Trace};
@@ -39,7 +39,7 @@ pub(crate) fn some_wait(events: &[Event], durable: &[bool], n: u32, end: usize) 
 }
 
 // The strand number of core n's next event.
-fn next_strand(events: &[Event], mode: Mode, n: u32) -> u32
+pub(crate) fn next_strand(events: &[Event], mode: Mode, n: u32) -> u32
     requires { length events.now < 2 ^ 32 }
     ensures { result ≡ next_strand mode events.now n }
 {
@@ -54,6 +54,15 @@ fn next_strand(events: &[Event], mode: Mode, n: u32) -> u32
     count
 }
 
+// Whether event a is of the strand of the next event, which is this one of its core.
+pub(crate) fn is_in_next(trace: &Trace, mode: Mode, event: Event, strand: u32, a: usize) -> bool
+    requires a { a < length trace.now.events }
+    requires strand { strand ≡ next_strand mode trace.now.events (core_of event) }
+    ensures { result ≡ is_in_next mode trace.now.events event a }
+{
+    trace.events()[a].core() == event.core() && trace.strand_of(mode, a) == strand
+}
+
 // Whether access `a` conflicts with the next event, which is of the given strand of its core, and is
 // of another strand.
 fn opposes(trace: &Trace, mode: Mode, event: Event, strand: u32, a: usize) -> bool
@@ -66,7 +75,7 @@ fn opposes(trace: &Trace, mode: Mode, event: Event, strand: u32, a: usize) -> bo
         && event.is_access()
         && earlier.word() == event.word()
         && (earlier.is_store() || event.is_store())
-        && !(earlier.core() == event.core() && trace.strand_of(mode, a) == strand)
+        && !is_in_next(trace, mode, event, strand, a)
 }
 
 // Notes event a where it is a persist that isn't durable, by its core.

@@ -1,6 +1,6 @@
 // Which events a core's queue carries.
 ghost use Rattle.std.specs.Prelude.{◌≡◌, ◌<◌, ◌&&◌, ◌==◌, length};
-ghost use Rattle.strand_events.specs.Trace.{event_is, core_of, is_persist};
+ghost use Rattle.strand_events.specs.Trace.{event_is, core_of, is_access, is_persist};
 ghost use Rattle.strand_rules.specs.Cycle.{is_item};
 
 use strand_events::Event;
@@ -37,4 +37,11 @@ pub(crate) fn is_core_persist(event: Event, n: u32) -> bool
     ensures { result ≡ (is_persist event && (core_of event == n)) }
 {
     event.is_persist() && event.core() == n
+}
+
+// Whether the event is an access of core n.
+pub(crate) fn is_core_access(event: Event, n: u32) -> bool
+    ensures { result ≡ (is_access event && (core_of event == n)) }
+{
+    event.is_access() && event.core() == n
 }

@@ -1,5 +1,7 @@
 //! The plain machine: up to four cores under a schedule, whose persists go through a queue of their
-//! core, a buffer of their strand and the requests in flight to the bank (docs/cycle.md).
+//! core, a buffer of their strand and the requests in flight to the bank (docs/cycle.md). Under the
+//! rule `stall` an access of a core waits for what conflicts with it; under `tag` it retires, and
+//! its persist waits in its buffer until the wait of the access is met (docs/waits.md).
 #![tactic(auto)]
 
 mod acting;
@@ -16,12 +18,15 @@ mod send_rules;
 #[cfg(test)]
 mod tests;
 mod turn;
+mod wait_rules;
+mod waits;
 mod write_steps;
 
 pub use acting::made_event;
 pub use items::is_item;
 pub use laws::{
-    durable_sets_are_allowed, images_follow_the_trace, parts_are_kept, visible_runs_are_kept,
+    durable_sets_are_allowed, images_follow_the_trace, parts_are_kept, tagged_accesses_never_stall,
+    visible_runs_are_kept,
 };
 pub use pipeline::Pipeline;
 pub use plain_machine::PlainMachine;

@@ -3,6 +3,9 @@ ghost use Rattle.strand_inputs.specs.Schedule.{IsBelow};
 ghost use Rattle.strand_events.specs.Order.{HoldsJoined, IsDownwardClosed};
 ghost use Rattle.strand_events.specs.Places.{LieIn};
 ghost use Rattle.strand_modules.specs.Seen.{bank_seen};
+ghost use Rattle.strand_inputs.specs.declared.conflict.Conflict.TheVariants.{Tag};
+ghost use Rattle.strand_rules.specs.declared.turn.Cause.TheVariants as causes;
+ghost use Rattle.strand_rules.specs.declared.turn.Turn.TheVariants.{Bubble};
 ghost use Rattle.strand_rules.specs.Cycle.{durable_set};
 ghost use Rattle.strand_rules.specs.Machine.{machine_at, durable_persists, SameSetup, StandsOn, Steps};
 
@@ -18,12 +21,14 @@ use strand_inputs::{Config, Step};
 use strand_modules::ModuleBank;
 
 /// The machine that runs an image under a schedule, one step at a time, by the cycle rules
-/// (docs/cycle.md), over one flat memory. It takes no memory after it is made, and `step` looks back over
-/// its trace.
+/// (docs/cycle.md), over one flat memory. It takes no memory after it is made, and `step` looks
+/// back over its trace and, under the rule `tag`, over the waits of its events (docs/waits.md).
 #[derive(Drop)]
 pub struct PlainMachine {
     pub(crate) pipeline: Pipeline,
     pub(crate) memory: FlatMemory,
+    // the wait of each event under tag, and none under stall
+    pub(crate) waits: Vec<[u32; 8]>,
 }
 
 impl Model for PlainMachine {
@@ -53,6 +58,7 @@ impl PlainMachine {
         Ok(PlainMachine {
             pipeline: Pipeline::new(alloc, config, image, steps)?,
             memory: FlatMemory::copy(alloc, image.volatile(), image.persistent())?,
+            waits: Vec::with_capacity(alloc, steps as usize)?,
         })
     }
 
@@ -130,13 +136,15 @@ impl PlainMachine {
     }
 
     /// Makes a step, for a core and a buffer of the machine. It takes no memory. A fault comes only where
-    /// the bank refused the step's store, and then nothing else changed. A bank that stood for the state
-    /// before stands for the state after it, whatever the turn.
+    /// the bank refused the step's store, and then nothing else changed. Under the rule `tag` no step is a
+    /// bubble for a conflict. A bank that stood for the state before stands for the state after it, whatever
+    /// the turn.
     pub fn step(&mut self, step: Step, bank: &mut ModuleBank) -> Turn
         requires room { self.old.made < self.old.steps }
         requires step { IsBelow (length self.old.state.now.cores) self.old.config.buffers step }
         requires bank { self.old.program.sizes.persistent ≤ (bank_seen holds bank.old).size }
         ensures step { Steps self.old self.new (bank_seen holds bank.old) (bank_seen holds bank.new) step result }
+        ensures tagged { self.old.config.conflict ≡ Tag → result ≡ Bubble causes.Conflict → ⊥ }
         ensures setup { SameSetup self.old self.new (bank_seen holds bank.old) (bank_seen holds bank.new) }
         ensures stands { StandsOn self.old.program.sizes.persistent self.old.state self.new.state
             (bank_seen holds bank.old) (bank_seen holds bank.new) }
@@ -145,7 +153,7 @@ impl PlainMachine {
         match step {
             Step::Core(n) => self.step_core(n),
             Step::Dispatch(n) => self.pipeline.step_dispatch(n),
-            Step::Send(n, b, j) => self.pipeline.step_send(n, b, j),
+            Step::Send(n, b, j) => self.pipeline.step_send(n, b, j, &self.waits),
             Step::Write(j) => self.pipeline.step_write(j, bank),
         }
     }

@@ -1,15 +1,17 @@
 // The steps of the cores over a flat memory.
-ghost use Rattle.std.specs.Prelude.{◌≡◌, ◌<◌, IfSome, length};
+ghost use Rattle.std.specs.Prelude.{◌≡◌, ◌<◌, IfSome, length, vec_len, vec_capacity};
 ghost use Rattle.strand_events.specs.Fits.{EventFits};
 ghost use Rattle.strand_exec.specs.Plan.{asked, IsPlaced};
 ghost use Rattle.strand_inputs.specs.declared.step.Step.TheVariants.{Core};
 ghost use Rattle.strand_rules.specs.Visible.{event_of};
 ghost use Rattle.strand_rules.specs.Cycle.{turn, core_after, IsReached};
 ghost use Rattle.strand_rules.specs.Machine.{stepped, made_to, Runs};
+ghost use Rattle.strand_rules.specs.Next.{IsNextWait, waited};
 
 use crate::PlainMachine;
 use crate::acting::{act, made_event, overwritten};
 use crate::turn::{Cause, Turn};
+use crate::wait_rules::wait_of;
 use strand_events::Event;
 use strand_exec::{Effect, Plan, asked};
 
@@ -25,6 +27,21 @@ impl PlainMachine {
         made_event(n, plan, overwritten(&self.memory, plan))
     }
 
+    // The wait of the next event under tag, if there is an event.
+    fn next_wait(&self, event: Option<Event>) -> Option<[u32; 8]>
+        ensures { IsNextWait self.now.config.conflict self.now.config.mode
+            self.now.state.now.trace event result }
+    {
+        let config = self.pipeline.config();
+        wait_of(
+            self.pipeline.trace(),
+            config.mode,
+            config.conflict,
+            &self.waits,
+            event,
+        )
+    }
+
     // Core n, which runs, retires its instruction, which makes this event.
     fn retire(&mut self, n: u32, effect: Effect, plan: Plan, event: Option<Event>)
         requires room { self.old.made < self.old.steps }
@@ -38,8 +55,11 @@ impl PlainMachine {
         ensures { self.new ≡ made_to self.old
             (core_after self.old.program self.old.state n event) }
     {
+        self.pipeline.keeps();
+        let wait = self.next_wait(event);
         let loaded = act(&mut self.memory, plan);
         self.pipeline.retire(n, effect, event, loaded);
+        keep_wait(&mut self.waits, wait);
     }
 
     // Core n retires its next instruction, unless it has ended or waits.
@@ -54,7 +74,7 @@ impl PlainMachine {
         };
         let plan = asked(effect, self.pipeline.sizes());
         let event = self.next_event(n, plan);
-        let turn = self.pipeline.made_turn(n, event);
+        let turn = self.pipeline.made_turn(n, event, &self.waits);
         match turn {
             Turn::Done => self.retire(n, effect, plan, event),
             Turn::Bubble(cause) => {
@@ -63,5 +83,16 @@ impl PlainMachine {
             Turn::Fault { .. } => {}
         }
         turn
+    }
+}
+
+// Keeps the wait of an event, if there is one.
+fn keep_wait(waits: &mut Vec<[u32; 8]>, wait: Option<[u32; 8]>)
+    requires { IfSome wait (λ w. vec_len waits.old < vec_capacity waits.old) }
+    ensures waits { waits.new.items ≡ waited waits.old.items wait }
+    ensures room { vec_capacity waits.new ≡ vec_capacity waits.old }
+{
+    if let Some(wait) = wait {
+        waits.push_reserved(wait);
     }
 }

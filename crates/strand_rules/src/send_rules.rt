@@ -6,11 +6,15 @@ ghost use Rattle.strand_events.specs.Order.{held};
 ghost use Rattle.strand_rules.specs.Cycle.{is_lower, epoch_waits, word_waits, is_eligible, eligible, older_waits};
 ghost use Rattle.strand_base.specs.Places.{place_of};
 ghost use Rattle.strand_rules.specs.Looking.{settings_of, state_of};
+ghost use Rattle.strand_rules.specs.Next.{AreKeptWaits, ArePrefixes};
+ghost use Rattle.strand_inputs.specs.declared.conflict.Conflict.TheVariants.{Stall};
 
 use crate::dispatch_rules::same_strand;
+use crate::wait_rules::persist_unmet;
+use crate::waits::durable_prefixes;
 use strand_events::{Event, Trace};
 use strand_exec::PERSISTENT_BASE;
-use strand_inputs::Mode;
+use strand_inputs::{Conflict, Mode};
 
 // Whether q is a persist of a lower epoch of p's strand that isn't durable.
 fn is_lower(trace: &Trace, mode: Mode, durable: &[bool], q: usize, p: usize) -> bool
@@ -29,7 +33,8 @@ fn is_lower(trace: &Trace, mode: Mode, durable: &[bool], q: usize, p: usize) -> 
 fn epoch_waits(trace: &Trace, mode: Mode, durable: &[bool], p: usize) -> bool
     requires p { p < length trace.now.events }
     requires marks { length durable.now ≡ length trace.now.events }
-    ensures { result ≡ epoch_waits (settings_of mode 0) (state_of trace.now.events [] [] [] durable.now) p }
+    ensures { result ≡ epoch_waits (settings_of mode 0 Stall)
+        (state_of trace.now.events [] [] [] durable.now) p }
 {
     let mut found = false;
     for q in 0..trace.events().len() {
@@ -44,7 +49,8 @@ fn epoch_waits(trace: &Trace, mode: Mode, durable: &[bool], p: usize) -> bool
 fn word_waits(trace: &Trace, mode: Mode, buffered: &[bool], p: usize) -> bool
     requires p { p < length trace.now.events }
     requires marks { length buffered.now ≡ length trace.now.events }
-    ensures { result ≡ word_waits (settings_of mode 0) (state_of trace.now.events [] buffered.now [] []) p }
+    ensures { result ≡ word_waits (settings_of mode 0 Stall)
+        (state_of trace.now.events [] buffered.now [] []) p }
 {
     let mut found = false;
     for q in 0..p {
@@ -58,50 +64,64 @@ fn word_waits(trace: &Trace, mode: Mode, buffered: &[bool], p: usize) -> bool
     found
 }
 
-// Whether event p is an eligible persist of buffer b of core n.
-fn is_eligible(
-    trace: &Trace,
-    mode: Mode,
-    buffers: u32,
-    buffered: &[bool],
-    durable: &[bool],
-    n: u32,
-    b: u32,
-    p: usize,
-) -> bool
-    requires p { p < length trace.now.events }
-    requires some { 0 < buffers }
-    requires buffered { length buffered.now ≡ length trace.now.events }
-    requires durable { length durable.now ≡ length trace.now.events }
-    ensures { result ≡ is_eligible (settings_of mode buffers) (state_of trace.now.events [] buffered.now [] durable.now) n b p }
-{
-    let inside = buffered[p]
-        && trace.events()[p].core() == n
-        && trace.strand_of(mode, p) % buffers == b;
-    inside && !epoch_waits(trace, mode, durable, p) && !word_waits(trace, mode, buffered, p)
+// The parts of a machine that the rules of a send look back over.
+#[derive(Clone, Copy)]
+pub(crate) struct Past<'a> {
+    // the events
+    pub(crate) trace: &'a Trace,
+    // the settings that the rules ask for
+    pub(crate) mode: Mode,
+    pub(crate) buffers: u32,
+    pub(crate) conflict: Conflict,
+    // the marks and the waits of the events
+    pub(crate) buffered: &'a [bool],
+    pub(crate) durable: &'a [bool],
+    pub(crate) waits: &'a [[u32; 8]],
 }
 
-// The eligible persist of buffer b of core n that has so many of them before it, by its event number.
-pub(crate) fn eligible_at(
-    trace: &Trace,
-    mode: Mode,
-    buffers: u32,
-    buffered: &[bool],
-    durable: &[bool],
-    n: u32,
-    b: u32,
-    place: u32,
-) -> Option<usize>
-    requires some { 0 < buffers }
-    requires buffered { length buffered.now ≡ length trace.now.events }
-    requires durable { length durable.now ≡ length trace.now.events }
-    requires small { length trace.now.events < 2 ^ 32 }
-    ensures eligible { result ≡ slice_get (eligible (settings_of mode buffers) (state_of trace.now.events [] buffered.now [] durable.now) n b) place }
-    ensures waits { IfSome result (λ p. held buffered.now p ≡ true) }
+// Whether event p is an eligible persist of buffer b of core n, where each core has so many first
+// persists that are all durable.
+fn is_eligible(past: &Past<'_>, prefixes: [u32; 8], n: u32, b: u32, p: usize) -> bool
+    requires p { p < length past.now.trace.now.events }
+    requires some { 0 < past.now.buffers }
+    requires buffered { length past.now.buffered.now ≡ length past.now.trace.now.events }
+    requires durable { length past.now.durable.now ≡ length past.now.trace.now.events }
+    requires waits { AreKeptWaits past.now.conflict past.now.mode
+        past.now.trace.now.events past.now.waits.now }
+    requires prefixes { ArePrefixes past.now.trace.now.events (held past.now.durable.now) prefixes }
+    ensures { result ≡ is_eligible (settings_of past.now.mode past.now.buffers past.now.conflict)
+        (state_of past.now.trace.now.events [] past.now.buffered.now [] past.now.durable.now)
+        n b p }
 {
+    let (trace, mode, durable) = (past.trace, past.mode, past.durable);
+    let inside = past.buffered[p]
+        && trace.events()[p].core() == n
+        && trace.strand_of(mode, p) % past.buffers == b;
+    inside
+        && !epoch_waits(trace, mode, durable, p)
+        && !word_waits(trace, mode, past.buffered, p)
+        && !persist_unmet(trace, mode, past.conflict, durable, past.waits, prefixes, p)
+}
+
+// The eligible persist of buffer b of core n that has so many of them before it, by its event
+// number.
+pub(crate) fn eligible_at(past: &Past<'_>, n: u32, b: u32, place: u32) -> Option<usize>
+    requires some { 0 < past.now.buffers }
+    requires buffered { length past.now.buffered.now ≡ length past.now.trace.now.events }
+    requires durable { length past.now.durable.now ≡ length past.now.trace.now.events }
+    requires waits { AreKeptWaits past.now.conflict past.now.mode
+        past.now.trace.now.events past.now.waits.now }
+    requires small { length past.now.trace.now.events < 2 ^ 32 }
+    ensures eligible { result
+        ≡ slice_get (eligible (settings_of past.now.mode past.now.buffers past.now.conflict)
+        (state_of past.now.trace.now.events [] past.now.buffered.now [] past.now.durable.now)
+        n b) place }
+    ensures unsent { IfSome result (λ p. held past.now.buffered.now p ≡ true) }
+{
+    let prefixes = durable_prefixes(past.trace.events(), past.durable);
     let mut passed: u32 = 0;
-    for p in 0..trace.events().len() {
-        if is_eligible(trace, mode, buffers, buffered, durable, n, b, p) {
+    for p in 0..past.trace.events().len() {
+        if is_eligible(past, prefixes, n, b, p) {
             if passed == place {
                 return Some(p);
             }

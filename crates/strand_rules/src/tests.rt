@@ -7,7 +7,7 @@ use std::process::Abort;
 use std::test::*;
 use strand_base::PmModule;
 use strand_image::Image;
-use strand_inputs::{Config, Mode, Step, read_schedule};
+use strand_inputs::{Config, Conflict, Mode, Step, read_schedule};
 use strand_modules::{ModuleBank, RamModule};
 
 const MACHINE: Config = Config {
@@ -18,6 +18,7 @@ const MACHINE: Config = Config {
     flight: 4,
     sets: 4,
     ways: 2,
+    conflict: Conflict::Stall,
 };
 
 // A word, a barrier, a second word, a new strand and a third word; then a JoinStrand.
@@ -31,10 +32,12 @@ const ONE_WORD: &[u32] = &[
     0x40000137, 0x00100093, 0x00200193, 0x00113023, 0x00313023, 0x00113023, 0x00100073,
 ];
 
-// Core 0 stores a word and then a volatile flag; core 1 loads the flag and then stores another word.
+// Core 0 stores a word and then a volatile flag; core 1 loads the flag and then stores another
+// word, or, where it begins at 13, joins.
 const FLAG: &[u32] = &[
     0x40000137, 0x200001b7, 0x00100093, 0x00113023, 0x0000000b, 0x0011b023, 0x00100073, 0x40000137,
-    0x200001b7, 0x0001b203, 0x0000000b, 0x00413423, 0x00100073,
+    0x200001b7, 0x0001b203, 0x0000000b, 0x00413423, 0x00100073, 0x200001b7, 0x0001b203, 0x0000200b,
+    0x00100073,
 ];
 
 // Two cores store the two halves of one word.
@@ -300,4 +303,42 @@ fn cores_wait_for_each_other(rt: HostRuntime) -> Result<(), Fail> {
             "6 Bubble(Conflict), 10, 6 retired, [8589934593, 0, 0]",
         )],
     )
+}
+
+// One schedule by both rules of conflicts.
+#[test]
+fn tagged_accesses_retire_and_their_persists_wait(rt: HostRuntime) -> Result<(), Fail> {
+    let tag = Config {
+        conflict: Conflict::Tag,
+        ..MACHINE
+    };
+    let stores = "c 0 * 6\nc 1 * 5\nd 1 * 2\ns 1 0 0\nd 0 * 2\ns 0 0 0\nw 0\ns 1 0 0\nw 0\n";
+    let joins = "c 0 * 6\nc 1 * 3\nd 0 * 2\ns 0 0 0\nw 0\nc 1\n";
+    for (config, entry, schedule, wanted) in [
+        (
+            MACHINE,
+            7,
+            stores,
+            "9 Bubble(Conflict), 10 Bubble(Conflict), 11 Bubble(Conflict), 12 Bubble(NoItem), \
+             13 Bubble(NoItem), 14 Bubble(NoEntry), 19 Bubble(NoEntry), 20 Bubble(NoEntry), \
+             1, 8 retired, [1, 0, 0]",
+        ),
+        (
+            tag,
+            7,
+            stores,
+            "14 Bubble(NoEntry), 11, 11 retired, [1, 1, 0]",
+        ),
+        (
+            MACHINE,
+            13,
+            joins,
+            "8 Bubble(Conflict), 9 Bubble(Conflict), 1, 8 retired, [1, 0, 0]",
+        ),
+        (tag, 13, joins, "9 Bubble(Join), 1, 9 retired, [1, 0, 0]"),
+    ] {
+        let image = image_of(rt.alloc(), &[0, entry], FLAG)?;
+        rows(&rt, rt.alloc(), config, &image, 0, &[(schedule, wanted)])?;
+    }
+    Ok(())
 }

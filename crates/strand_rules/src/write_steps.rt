@@ -7,30 +7,33 @@ ghost use Rattle.strand_inputs.specs.declared.step.Step.TheVariants.{Send, Write
 ghost use Rattle.strand_modules.specs.Seen.{bank_seen};
 ghost use Rattle.strand_rules.specs.Cycle.{turn, eligible, send_after, older_waits, request_of, write_after};
 ghost use Rattle.strand_rules.specs.Machine.{stepped, made_to, Steps};
+ghost use Rattle.strand_rules.specs.Next.{AreKeptWaits};
 ghost use Rattle.strand_rules.specs.Pipeline.{IsReachedWithSome};
 
 use crate::pipeline::Pipeline;
-use crate::send_rules::{eligible_at, older_waits, persist_number, request};
+use crate::send_rules::{Past, eligible_at, older_waits, persist_number, request};
 use crate::turn::{Cause, Turn};
 use strand_modules::{AtModule, ModuleBank};
 
 impl Pipeline {
-    // The eligible persist of buffer b of core n at place j.
-    fn eligible_at(&self, n: u32, b: u32, j: u32) -> Option<usize>
+    // The eligible persist of buffer b of core n at place j. These are the waits of the events.
+    fn eligible_at(&self, n: u32, b: u32, j: u32, waits: &[[u32; 8]]) -> Option<usize>
+        requires { AreKeptWaits self.now.config.conflict self.now.config.mode
+            self.now.state.now.trace waits.now }
         ensures eligible { result ≡ slice_get (eligible self.now.config self.now.state n b) j }
-        ensures waits { IfSome result (λ p. held self.now.state.buffered p ≡ true) }
+        ensures unsent { IfSome result (λ p. held self.now.state.buffered p ≡ true) }
     {
         let config = self.config;
-        eligible_at(
-            &self.trace,
-            config.mode,
-            config.buffers,
-            &self.buffered,
-            &self.durable,
-            n,
-            b,
-            j,
-        )
+        let past = Past {
+            trace: &self.trace,
+            mode: config.mode,
+            buffers: config.buffers,
+            conflict: config.conflict,
+            buffered: &self.buffered,
+            durable: &self.durable,
+            waits,
+        };
+        eligible_at(&past, n, b, j)
     }
 
     // Whether as many requests are in flight as can be.
@@ -46,7 +49,7 @@ impl Pipeline {
     pub fn send(&mut self, p: usize)
         requires room { self.old.made < self.old.steps }
         requires flight { length self.old.state.flight < self.old.config.flight }
-        requires waits { held self.old.state.buffered p ≡ true }
+        requires buffered { held self.old.state.buffered p ≡ true }
         requires reached { IsReachedWithSome self.old.config self.old.program
             (send_after self.old.state (Some p)) }
         ensures { self.new ≡ made_to self.old (send_after self.old.state (Some p)) }
@@ -56,14 +59,16 @@ impl Pipeline {
         self.made += 1;
     }
 
-    // Buffer b of core n sends its eligible persist at place j.
-    pub(crate) fn step_send(&mut self, n: u32, b: u32, j: u32) -> Turn
-        requires { self.old.made < self.old.steps }
+    // Buffer b of core n sends its eligible persist at place j. These are the waits of the events.
+    pub(crate) fn step_send(&mut self, n: u32, b: u32, j: u32, waits: &[[u32; 8]]) -> Turn
+        requires room { self.old.made < self.old.steps }
+        requires waits { AreKeptWaits self.old.config.conflict self.old.config.mode
+            self.old.state.now.trace waits.now }
         ensures turn { result ≡ turn self.old.config self.old.program self.old.state (Send n b j) }
         ensures machine { self.new ≡ stepped self.old (Send n b j) }
     {
         prove!(self.made < self.steps);
-        let Some(p) = self.eligible_at(n, b, j) else {
+        let Some(p) = self.eligible_at(n, b, j, waits) else {
             return self.bubble(Cause::NoEntry);
         };
         if self.flight_full() {

@@ -1,4 +1,5 @@
+pub mod Vectors
 pub mod Noting
-pub mod Leading
 pub mod Longer
 pub mod Waiting
+pub mod Handing

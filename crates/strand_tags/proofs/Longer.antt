@@ -6,13 +6,19 @@ use Rattle.std.proofs.lemmas.List.{length-append, map-append}
 use Rattle.strand_base.specs.Counting.{list_below}
 use Rattle.strand_base.proofs.Counting.{count_agree, list_agree}
 use Rattle.strand_inputs.specs.declared.mode.Mode.{Mode}
+use Rattle.strand_inputs.specs.declared.conflict.Conflict.{Conflict}
+use Rattle.strand_inputs.specs.declared.conflict.Conflict.TheVariants.{Stall, Tag}
 use Rattle.strand_events.specs.declared.event.Event.{Event}
 use Rattle.strand_events.specs.Trace.{is_access, is_persist, is_store, core_at, event_is, core_event_is}
 use Rattle.strand_events.specs.Order.{Set}
 use Rattle.strand_events.proofs.Kept.{last_is}
 use Rattle.strand_events.proofs.Prefix.{event_is_kept, core_kept, word_kept, core_event_kept, number_kept}
-use Rattle.strand_tags.specs.Traces.{made_below, noted_at, noted_below, noted_accesses, leading, core_persists, core_marks, durable_prefix}
-use Rattle.strand_tags.proofs.Leading.{leading_unset}
+use Rattle.strand_events.specs.Prefixes.{made_below, leading, core_persists, core_marks, durable_prefix}
+use Rattle.strand_events.specs.Waits.{wait}
+use Rattle.strand_events.proofs.Leading.{leading_unset}
+use Rattle.strand_events.proofs.WaitKept.{wait_kept}
+use Rattle.strand_tags.specs.Traces.{noted_wait, noted_at, noted_below, noted_accesses}
+use Rattle.strand_tags.proofs.Vectors.{same_each}
 
 -- two functions that agree where a test passes give one list of the numbers that pass
 map_below : {X : Type 0} (f h : ℕ → X) (n : ℕ) (test : ℕ → Bool) → ((k : ℕ) → k < n → f k ≡ h k) → map f (list_below n test) ≡ map h (list_below n test)
@@ -35,17 +41,21 @@ module _ (t : List Event) (e : Event) where
   pub made_kept : (c end : ℕ) → end ≤ length t → made_below (t ++ e ∷ []) c end ≡ made_below t c end
   made_kept c end le = count_agree end (core_event_is is_persist c (t ++ e ∷ [])) (core_event_is is_persist c t) (λ k lt. core_event_kept t e is_persist c k (omega (arith, lt, le)))
 
-  module _ (mode : Mode) where
-    noted_kept : (a : ℕ) → a < length t → noted_at mode (t ++ e ∷ []) a ≡ noted_at mode t a
+  module _ (conflict : Conflict) (mode : Mode) where
+    wait_noted : (conflict : Conflict) (a : ℕ) → a < length t → noted_wait conflict mode (t ++ e ∷ []) a ≡ noted_wait conflict mode t a
+    wait_noted Stall a lt = refl
+    wait_noted Tag a lt = same_each (λ c. wait mode (t ++ e ∷ []) c a) (λ c. wait mode t c a) (λ c. wait_kept mode t e c a lt)
+
+    noted_kept : (a : ℕ) → a < length t → noted_at conflict mode (t ++ e ∷ []) a ≡ noted_at conflict mode t a
     noted_kept a lt =
         let made : made_below (t ++ e ∷ []) (core_at (t ++ e ∷ []) a) (a + 1) ≡ made_below t (core_at t a) (a + 1) = ap (λ c. made_below (t ++ e ∷ []) c (a + 1)) (core_kept t e a lt) ∙ made_kept (core_at t a) (a + 1) (omega (arith, lt)) in
-        cc (core_kept t e a lt, number_kept t e mode a lt, word_kept t e a lt, event_is_kept t e is_store a lt, made)
+        cc (core_kept t e a lt, number_kept t e mode a lt, word_kept t e a lt, event_is_kept t e is_store a lt, made, wait_noted conflict a lt)
 
-    same_list : map (noted_at mode (t ++ e ∷ [])) (list_below (length t) (event_is is_access t)) ≡ noted_accesses mode t
-    same_list = map_below (noted_at mode (t ++ e ∷ [])) (noted_at mode t) (length t) (event_is is_access t) noted_kept
+    same_list : map (noted_at conflict mode (t ++ e ∷ [])) (list_below (length t) (event_is is_access t)) ≡ noted_accesses conflict mode t
+    same_list = map_below (noted_at conflict mode (t ++ e ∷ [])) (noted_at conflict mode t) (length t) (event_is is_access t) noted_kept
 
-    pub noted_before : noted_below mode (t ++ e ∷ []) (length t) ≡ noted_accesses mode t
-    noted_before = ap (map (noted_at mode (t ++ e ∷ []))) (list_agree (length t) (event_is is_access (t ++ e ∷ [])) (event_is is_access t) (λ k lt. event_is_kept t e is_access k lt)) ∙ same_list
+    pub noted_before : noted_below conflict mode (t ++ e ∷ []) (length t) ≡ noted_accesses conflict mode t
+    noted_before = ap (map (noted_at conflict mode (t ++ e ∷ []))) (list_agree (length t) (event_is is_access (t ++ e ∷ [])) (event_is is_access t) (λ k lt. event_is_kept t e is_access k lt)) ∙ same_list
 
     accesses_grown : list_below (length (t ++ e ∷ [])) (event_is is_access (t ++ e ∷ [])) ≡ (if is_access e then list_below (length t) (event_is is_access t) ++ length t ∷ [] else list_below (length t) (event_is is_access t))
     accesses_grown =
@@ -53,15 +63,15 @@ module _ (t : List Event) (e : Event) where
         ∙ ap (λ b. if b then list_below (length t) (event_is is_access t) ++ length t ∷ [] else list_below (length t) (event_is is_access t)) (last_is is_access t e)
 
     -- a new access is noted at the end
-    pub access_noted : is_access e ≡ true → noted_accesses mode (t ++ e ∷ []) ≡ noted_accesses mode t ++ noted_at mode (t ++ e ∷ []) (length t) ∷ []
+    pub access_noted : is_access e ≡ true → noted_accesses conflict mode (t ++ e ∷ []) ≡ noted_accesses conflict mode t ++ noted_at conflict mode (t ++ e ∷ []) (length t) ∷ []
     access_noted is =
-        ap (map (noted_at mode (t ++ e ∷ []))) (accesses_grown ∙ (rw is refl))
-        ∙ map-append (noted_at mode (t ++ e ∷ [])) (list_below (length t) (event_is is_access t)) (length t ∷ [])
-        ∙ ap (λ ns. ns ++ noted_at mode (t ++ e ∷ []) (length t) ∷ []) same_list
+        ap (map (noted_at conflict mode (t ++ e ∷ []))) (accesses_grown ∙ (rw is refl))
+        ∙ map-append (noted_at conflict mode (t ++ e ∷ [])) (list_below (length t) (event_is is_access t)) (length t ∷ [])
+        ∙ ap (λ ns. ns ++ noted_at conflict mode (t ++ e ∷ []) (length t) ∷ []) same_list
 
     -- another event isn't
-    pub other_unnoted : is_access e ≡ false → noted_accesses mode (t ++ e ∷ []) ≡ noted_accesses mode t
-    other_unnoted is = ap (map (noted_at mode (t ++ e ∷ []))) (accesses_grown ∙ (rw is refl)) ∙ same_list
+    pub other_unnoted : is_access e ≡ false → noted_accesses conflict mode (t ++ e ∷ []) ≡ noted_accesses conflict mode t
+    other_unnoted is = ap (map (noted_at conflict mode (t ++ e ∷ []))) (accesses_grown ∙ (rw is refl)) ∙ same_list
 
   -- a new event that isn't durable changes no durable prefix
   pub prefix_kept : (durable : Set) (c : ℕ) → durable (length t) ≡ false → durable_prefix (t ++ e ∷ []) durable c ≡ durable_prefix t durable c

@@ -7,6 +7,7 @@ use Rattle.std.proofs.lemmas.Option.{slice_get-get_or}
 use Rattle.strand_base.specs.Counting.{list_below, any_below}
 use Rattle.strand_base.proofs.Counting.{any_true, any_from, any_agree}
 use Rattle.strand_inputs.specs.declared.mode.Mode.{Mode}
+use Rattle.strand_inputs.specs.declared.conflict.Conflict.TheVariants.{Stall}
 use Rattle.strand_events.specs.declared.event.Event.{Event}
 use Rattle.strand_events.specs.declared.event.Event.TheVariants.{Join}
 use Rattle.strand_events.specs.Trace.{core_of, core_in, is_access, is_persist, core_at, event_is, core_event_is, same_strand}
@@ -14,10 +15,12 @@ use Rattle.strand_events.specs.Order.{Set, conflicts}
 use Rattle.strand_events.specs.Fits.{AllFit}
 use Rattle.strand_events.proofs.Joins.{fits_at}
 use Rattle.strand_events.proofs.Within.{event_within}
-use Rattle.strand_tags.specs.Access.{Access, Noted, opposes, part, covered}
-use Rattle.strand_tags.specs.Traces.{access_at, made_below, noted_at, noted_below, durable_prefix, waits_by_counts}
+use Rattle.strand_events.specs.Prefixes.{made_below, durable_prefix}
+use Rattle.strand_events.proofs.Leading.{missing_up_to}
+use Rattle.strand_tags.specs.Access.{Access, Noted, conflicts_with, opposes, made_part, part, covered}
+use Rattle.strand_tags.specs.Traces.{access_at, noted_at, noted_below, waits_by_counts}
 use Rattle.strand_tags.proofs.Noting.{covered_push}
-use Rattle.strand_tags.proofs.Leading.{missing_up_to}
+use Rattle.strand_tags.proofs.Vectors.{none_at}
 
 -- each event is of one of eight cores
 core_few : (t : List Event) (a : ℕ) → AllFit t → a < length t → core_at t a < 8
@@ -49,20 +52,20 @@ below_covered c x b g (suc n) f = elim (cases_Bool (f n)) [
   | inr no_ ↦ rw no_ (below_covered c x b g n f)
 ]
 
--- what an access adds is more than x where it is of core c, opposes, and its core had made more
-below_part : (c x : ℕ) (b : Access) (n : Noted) → nat_lt x (part c b n) ≡ true → (n.access.core ≡ c) × (opposes n.access b ≡ true) × (x < n.made)
+-- what an access of core c made is more than x where it is of core c, opposes, and its core had made more
+below_part : (c x : ℕ) (b : Access) (n : Noted) → nat_lt x (made_part c b n) ≡ true → (n.access.core ≡ c) × (opposes n.access b ≡ true) × (x < n.made)
 below_part c x b n h = elim (cases_Bool ((n.access.core == c) && opposes n.access b)) [
   | inl yes_ ↦
       let parts = and_parts (n.access.core == c) (opposes n.access b) yes_ in
-      let e : part c b n ≡ n.made = rw yes_ refl in
-      (eqb-true n.access.core c parts.0, parts.1, (let lt = ltb-true x (part c b n) h in omega (arith, lt, e)))
-  | inr no_ ↦ let e : part c b n ≡ 0 = rw no_ refl in let lt = ltb-true x (part c b n) h in absurd (omega (arith, lt, e))
+      let e : made_part c b n ≡ n.made = rw yes_ refl in
+      (eqb-true n.access.core c parts.0, parts.1, (let lt = ltb-true x (made_part c b n) h in omega (arith, lt, e)))
+  | inr no_ ↦ let e : made_part c b n ≡ 0 = rw no_ refl in let lt = ltb-true x (made_part c b n) h in absurd (omega (arith, lt, e))
 ]
 
-part_below : (c x : ℕ) (b : Access) (n : Noted) → n.access.core ≡ c → opposes n.access b ≡ true → x < n.made → nat_lt x (part c b n) ≡ true
+part_below : (c x : ℕ) (b : Access) (n : Noted) → n.access.core ≡ c → opposes n.access b ≡ true → x < n.made → nat_lt x (made_part c b n) ≡ true
 part_below c x b n e yes_ lt =
-    let is : part c b n ≡ n.made = rw (and_from (n.access.core == c) (opposes n.access b) (eq-eqb n.access.core c e) yes_) refl in
-    lt-ltb x (part c b n) (omega (arith, is, lt))
+    let is : made_part c b n ≡ n.made = rw (and_from (n.access.core == c) (opposes n.access b) (eq-eqb n.access.core c e) yes_) refl in
+    lt-ltb x (made_part c b n) (omega (arith, is, lt))
 
 regroup : (a e w s n : Bool) → e ≡ true → (a && e && w && s && n) ≡ (a && (w && s && n))
 regroup true e w s n h = rw h refl
@@ -82,15 +85,15 @@ module _ (mode : Mode) (t : List Event) (durable : Set) (b : ℕ) (is : event_is
 
   -- its part of core c is more than lead
   abbrev is_more : ℕ → ℕ → Bool
-  is_more c a = event_is is_access t a && nat_lt (durable_prefix t durable c) (part c (access_at mode t b) (noted_at mode t a))
+  is_more c a = event_is is_access t a && nat_lt (durable_prefix t durable c) (made_part c (access_at mode t b) (noted_at Stall mode t a))
 
   opposes_same : (a : ℕ) → (conflicts t a b && not (same_strand mode t a b)) ≡ (event_is is_access t a && opposes (access_at mode t a) (access_at mode t b))
   opposes_same a = regroup _ _ _ _ _ is
 
   up : (c a : ℕ) → a < length t → is_more c a ≡ true → holds_up a ≡ true
   up c a lt h =
-      let parts = and_parts (event_is is_access t a) (nat_lt (durable_prefix t durable c) (part c (access_at mode t b) (noted_at mode t a))) h in
-      let r = below_part c (durable_prefix t durable c) (access_at mode t b) (noted_at mode t a) parts.1 in
+      let parts = and_parts (event_is is_access t a) (nat_lt (durable_prefix t durable c) (made_part c (access_at mode t b) (noted_at Stall mode t a))) h in
+      let r = below_part c (durable_prefix t durable c) (access_at mode t b) (noted_at Stall mode t a) parts.1 in
       let against : (conflicts t a b && not (same_strand mode t a b)) ≡ true = opposes_same a ∙ and_from (event_is is_access t a) (opposes (access_at mode t a) (access_at mode t b)) parts.0 r.1 in
       let more : durable_prefix t durable (core_at t a) < made_below t (core_at t a) (a + 1) = subst (λ x. durable_prefix t durable x < made_below t (core_at t a) (a + 1)) (sym r.0) r.2 in
       and_from (conflicts t a b && not (same_strand mode t a b)) (some_wait (core_at t a) (a + 1)) against (wait_by_counts t durable (core_at t a) (a + 1) (omega (arith, lt)) ∙ lt-ltb _ _ more)
@@ -100,10 +103,17 @@ module _ (mode : Mode) (t : List Event) (durable : Set) (b : ℕ) (is : event_is
       let parts = and_parts (conflicts t a b && not (same_strand mode t a b)) (some_wait (core_at t a) (a + 1)) h in
       let against = and_parts (event_is is_access t a) (opposes (access_at mode t a) (access_at mode t b)) (sym (opposes_same a) ∙ parts.0) in
       let more = ltb-true (durable_prefix t durable (core_at t a)) (made_below t (core_at t a) (a + 1)) (sym (wait_by_counts t durable (core_at t a) (a + 1) (omega (arith, lt))) ∙ parts.1) in
-      and_from (event_is is_access t a) (nat_lt (durable_prefix t durable (core_at t a)) (part (core_at t a) (access_at mode t b) (noted_at mode t a))) against.0 (part_below (core_at t a) (durable_prefix t durable (core_at t a)) (access_at mode t b) (noted_at mode t a) refl against.1 more)
+      and_from (event_is is_access t a) (nat_lt (durable_prefix t durable (core_at t a)) (made_part (core_at t a) (access_at mode t b) (noted_at Stall mode t a))) against.0 (part_below (core_at t a) (durable_prefix t durable (core_at t a)) (access_at mode t b) (noted_at Stall mode t a) refl against.1 more)
+
+  -- where accesses are noted with no wait, each adds what was made at it
+  stalled : (c a : ℕ) → part c (access_at mode t b) (noted_at Stall mode t a) ≡ made_part c (access_at mode t b) (noted_at Stall mode t a)
+  stalled c a = elim (cases_Bool (conflicts_with (access_at mode t a) (access_at mode t b))) [
+    | inl yes_ ↦ rw (yes_, none_at c) (omega arith)
+    | inr no_ ↦ rw no_ (omega arith)
+  ]
 
   rows : waits_by_counts mode t durable b ≡ any_below 8 (λ c. any_below b (is_more c))
-  rows = any_agree 8 (λ c. nat_lt (durable_prefix t durable c) (covered c (access_at mode t b) (noted_below mode t b))) (λ c. any_below b (is_more c)) (λ c lt. below_covered c (durable_prefix t durable c) (access_at mode t b) (noted_at mode t) b (event_is is_access t))
+  rows = any_agree 8 (λ c. nat_lt (durable_prefix t durable c) (covered c (access_at mode t b) (noted_below Stall mode t b))) (λ c. any_below b (is_more c)) (λ c lt. below_covered c (durable_prefix t durable c) (access_at mode t b) (noted_at Stall mode t) b (event_is is_access t) ∙ any_agree b _ (is_more c) (λ a lt'. ap (λ x. event_is is_access t a && nat_lt (durable_prefix t durable c) x) (stalled c a)))
 
   inside : (a : ℕ) → a < b → a < length t
   inside a lt = omega (arith, lt, event_within is_access t b is)

@@ -16,8 +16,8 @@ is_eligible-requires-clause-blocked c =
 
 pub returns-then-passed-j-clause-place : goal.returns-then-passed-j-clause-place
 returns-then-passed-j-clause-place c =
-    let at = list_at (length c.args.entries.now) (is_eligible c.args.entries.now) c.loop-i.i c.loop-i-test.true (sym c.is_eligible.ensures ∙ c.if-is_eligible.true) in
-    sym (ap (slice_get (eligible_places c.args.entries.now)) (sym c.if-passed-j.true ∙ c.loop-i.invariant.counted) ∙ at)
+    let at = list_at (length c.args.entries.now) (is_eligible c.args.durable.now c.args.entries.now) c.loop-i.i c.loop-i-test.true (sym c.is_eligible.ensures ∙ c.if-is_eligible.true) in
+    sym (ap (slice_get (eligible_places c.args.durable.now c.args.entries.now)) (sym c.if-passed-j.true ∙ c.loop-i.invariant.counted) ∙ at)
 
 pub loop-i-preserved : goal.loop-i-preserved
 loop-i-preserved c =
@@ -31,10 +31,10 @@ loop-i-preserved c =
       | else-is_buffered w ↦ w.waits-is ∙ blocked ∙ ap (λ b. b || word_waits entries i) (sym w.if-is_buffered.false ∙ c.is_buffered.ensures) ∙ waits_more entries i
     ] in
     let one : i + 1 ≡ suc i = omega arith in
-    let counted : c.if-is_eligible.passed ≡ count_below (i + 1) (is_eligible entries) =
+    let counted : c.if-is_eligible.passed ≡ count_below (i + 1) (is_eligible c.args.durable.now entries) =
     elim c.if-is_eligible.branch [
-      | then-is_eligible+else-passed-j w ↦ omega (arith, w.passed-is, c.loop-i.invariant.counted, count_yes i (is_eligible entries) (sym c.is_eligible.ensures ∙ w.if-is_eligible.true), ap (λ n. count_below n (is_eligible entries)) one)
-      | else-is_eligible w ↦ omega (arith, w.passed-is, c.loop-i.invariant.counted, count_no i (is_eligible entries) (sym c.is_eligible.ensures ∙ w.if-is_eligible.false), ap (λ n. count_below n (is_eligible entries)) one)
+      | then-is_eligible+else-passed-j w ↦ omega (arith, w.passed-is, c.loop-i.invariant.counted, count_yes i (is_eligible c.args.durable.now entries) (sym c.is_eligible.ensures ∙ w.if-is_eligible.true), ap (λ n. count_below n (is_eligible c.args.durable.now entries)) one)
+      | else-is_eligible w ↦ omega (arith, w.passed-is, c.loop-i.invariant.counted, count_no i (is_eligible c.args.durable.now entries) (sym c.is_eligible.ensures ∙ w.if-is_eligible.false), ap (λ n. count_below n (is_eligible c.args.durable.now entries)) one)
     ] in
     record {
       counted = counted;
@@ -47,4 +47,4 @@ loop-i-preserved c =
 pub returns-clause-place : goal.returns-clause-place
 returns-clause-place c =
     let all : c.loop-i.i ≡ length c.args.entries.now = omega (arith, c.loop-i-test.false, c.loop-i.auto.i-end) in
-    sym (list_none (length c.args.entries.now) (is_eligible c.args.entries.now) c.args.j (omega (arith, c.loop-i.invariant.counted, c.loop-i.invariant.before, ap (λ n. count_below n (is_eligible c.args.entries.now)) all)))
+    sym (list_none (length c.args.entries.now) (is_eligible c.args.durable.now c.args.entries.now) c.args.j (omega (arith, c.loop-i.invariant.counted, c.loop-i.invariant.before, ap (λ n. count_below n (is_eligible c.args.durable.now c.args.entries.now)) all)))

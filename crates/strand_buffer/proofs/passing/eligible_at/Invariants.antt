@@ -7,7 +7,7 @@ use Rattle.strand_buffer.proofs.passing.eligible_at.Given as goal
 
 abbrev pub invariant-loop-i : goal.invariant-loop-i
 invariant-loop-i l = record {
-  counted : l.passed ≡ count_below l.i (is_eligible l.entries);
+  counted : l.passed ≡ count_below l.i (is_eligible l.durable l.entries);
   small : l.passed ≤ l.i;
   before : l.passed ≤ l.j;
   all : length l.waits ≡ 64;

@@ -1,4 +1,5 @@
-use Rattle.strand_rules.proofs.PartsKept.{good_parts, good_in_order, good_settled}
+use Rattle.strand_rules.proofs.PartsKept.{good_parts, good_in_order, good_met}
+use Rattle.strand_events.proofs.Covered.{settled}
 use Rattle.strand_rules.proofs.OneStrand.{fit_buffers}
 use Rattle.strand_rules.proofs.Reached.{reached_good, reached_fit}
 use Rattle.strand_rules.proofs.laws.parts_are_kept.Goals as goal
@@ -7,7 +8,10 @@ pub returns-clause-parts : goal.returns-clause-parts
 returns-clause-parts c = λ g p s reached. good_parts g s (reached_good g p s reached)
 
 pub returns-clause-settled : goal.returns-clause-settled
-returns-clause-settled c = λ g p s reached. good_settled g s (reached_good g p s reached)
+returns-clause-settled c = settled
+
+pub returns-clause-met : goal.returns-clause-met
+returns-clause-met c = λ g p s reached. good_met g s (reached_good g p s reached)
 
 pub returns-clause-in_order : goal.returns-clause-in_order
 returns-clause-in_order c = λ g p s reached. good_in_order g s (reached_good g p s reached)

@@ -6,7 +6,7 @@ use Rattle.strand_rules.proofs.send_rules.eligible_at.Given as goal
 
 abbrev pub invariant-loop-p : goal.invariant-loop-p
 invariant-loop-p l = record {
-  counted : l.passed ≡ count_below l.p (is_eligible (settings_of l.mode l.buffers) (state_of l.trace.events [] l.buffered [] l.durable) l.n l.b);
+  counted : l.passed ≡ count_below l.p (is_eligible (settings_of l.past.mode l.past.buffers l.past.conflict) (state_of l.past.trace.now.events [] l.past.buffered.now [] l.past.durable.now) l.n l.b);
   small : l.passed ≤ l.p;
   before : l.passed ≤ l.place;
 }

@@ -12,6 +12,6 @@ returns-clause-eligible c =
     let ring = c.index-ring.result.now in
     let lt = ring_there c.self.inside.rings.items c.args.self.now.lists c.args.b (ap (λ (x : Buffers). x.lists) c.self.view_is) c.requires in
     let list : ring.entries ≡ list_in c.args.self.now c.args.b = ring_list c.self.inside.rings.items c.args.b ring lt c.index-ring.ensures ∙ ap (λ (bs : Buffers). list_in bs c.args.b) c.self.view_is in
-    let found : c.eligible.result ≡ found_slot (list_in c.args.self.now c.args.b) c.args.j =
-    c.eligible.ensures ∙ ap (λ (es : List Entry). found_slot es c.args.j) list in
-    subst (λ o. IfSome o (λ (s : Slot). IsEligible c.args.self.now c.args.b s.number)) (sym found) (found_eligible (list_in c.args.self.now c.args.b) c.args.j)
+    let found : c.eligible.result ≡ found_slot (list_in c.args.self.now c.args.b) c.args.j c.args.durable.now =
+    c.eligible.ensures ∙ ap (λ (es : List Entry). found_slot es c.args.j c.args.durable.now) list in
+    subst (λ o. IfSome o (λ (s : Slot). IsEligible c.args.self.now c.args.b s.number c.args.durable.now)) (sym found) (found_eligible c.args.durable.now (list_in c.args.self.now c.args.b) c.args.j)

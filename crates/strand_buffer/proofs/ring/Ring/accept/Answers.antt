@@ -9,7 +9,7 @@ use Rattle.strand_buffer.proofs.ring.Ring.accept.Goals as goal
 pub invariant_of-self : goal.invariant_of-self
 invariant_of-self c =
     let old = c.self.inside in
-    let e : Entry = record { number = c.args.number; word = c.args.word; value = c.args.value; epoch = c.args.epoch; stage = Buffered } in
+    let e : Entry = record { number = c.args.number; word = c.args.word; value = c.args.value; epoch = c.args.epoch; wait = c.args.wait; stage = Buffered } in
     let distance = c.distance_to-distance.result in
     let link : IsLink old.entries.items (length old.entries.items) c.args.word distance = subst (λ (es : List Entry). IsLink es (length es) c.args.word distance) c.deref.ensures.value c.distance_to-distance.ensures in
     let last : AreUpTo old.entries.items c.args.epoch = subst (λ (r : RingSeen). AreUpTo r.entries c.args.epoch) (sym c.self.view_is) c.requires.epoch in

@@ -9,7 +9,7 @@ use Rattle.strand_machine.specs.KeptMachine.{IsHeld, seen}
 use Rattle.strand_machine.specs.Machine.{RingMachine}
 use Rattle.strand_machine.specs.Changed.{with_dispatched}
 use Rattle.strand_machine.specs.Stand.{PartsSeen}
-use Rattle.strand_machine.proofs.Fronts.{IsFirst, can_take, dispatch_reached, first_inside, holds_inside, rooms_after, stand_after}
+use Rattle.strand_machine.proofs.Fronts.{IsFirst, can_take, dispatch_reached, first_inside, has_wait, holds_inside, rooms_after, stand_after}
 use Rattle.strand_machine.proofs.Held.{held_moved}
 use Rattle.strand_machine.proofs.machine.Machine.dispatch.Goals.{After-dispatch-2, After-keeps}
 use Rattle.strand_machine.proofs.machine.Machine.dispatch.Goals as goal
@@ -37,6 +37,9 @@ dispatch-requires-clause-reached c =
 pub dispatch-requires-2-clause-take : goal.dispatch-requires-2-clause-take
 dispatch-requires-2-clause-take c = let at = (goal.at.dispatch-requires-2-clause-take c).After-keeps in can_take (seen c.self.inside) c.args.n c.args.item (first at) (done at)
 
+pub dispatch-requires-2-clause-wait : goal.dispatch-requires-2-clause-wait
+dispatch-requires-2-clause-wait c = let at = (goal.at.dispatch-requires-2-clause-wait c).After-keeps in has_wait (seen c.self.inside) c.args.n c.args.item (first at)
+
 -- what the fields keep
 held : (c : After-dispatch-2) → IsFirst (seen c.self.inside) c.args.n c.args.item
     → turn (seen c.self.inside).machine.config (seen c.self.inside).machine.program (seen c.self.inside).machine.state (Dispatch c.args.n) ≡ Done
@@ -49,7 +52,7 @@ held c is_first is_done =
     let is = ap (λ (p : PartsSeen). with_memory p.cache.memory c.dispatch.new.self) c.dispatch-2.ensures ∙ ap (with_memory memory) c.dispatch.ensures
     ∙ ap (made_to r.machine) (sym (item_after_with memory c.self.inside.pipeline.state n o)) in
     held_moved r (item_after r.machine.state n o) c.dispatch.new.self c.dispatch-2.new.self (with_dispatched r.parts n c.args.item) is c.dispatch-2.ensures
-    (stand_after r n c.args.item is_first) (rooms_after r n c.args.item is_first) (dispatch_reached r n c.args.item is_first is_done) is_first.holds.extents
+    (stand_after r n c.args.item is_first) (rooms_after r n c.args.item is_first) is_first.holds.wait_room (dispatch_reached r n c.args.item is_first is_done) is_first.holds.extents
 
 pub returns-clause-machine : goal.returns-clause-machine
 returns-clause-machine c =

@@ -7,7 +7,7 @@ use Rattle.strand_rules.specs.Pipeline.{with_memory}
 use Rattle.strand_rules.proofs.Reached.{start_reached}
 use Rattle.strand_machine.specs.KeptMachine.{IsHeld}
 use Rattle.strand_machine.specs.Stand.{PartsSeen}
-use Rattle.strand_machine.proofs.StandStart.{rooms_new, stand_new}
+use Rattle.strand_machine.proofs.StandStart.{rooms_new, stand_new, wait_room_new}
 use Rattle.strand_machine.proofs.machine.Machine.new.Goals.{In_ok-parts}
 use Rattle.strand_machine.proofs.machine.Machine.new.Goals as goal
 
@@ -22,6 +22,7 @@ held c =
     record {
       stand = stand_new c.args.config.now c.args.image.now c.args.steps m c.in_ok-parts.parts is known.parts (known.extents ∙ c.sizes.ensures ∙ ap (λ (m : Machine). m.program.sizes) c.in_ok-pipeline.ensures) known.strands known.made known.noted known.accesses;
       rooms = rooms_new c.args.config.now c.args.image.now c.args.steps m c.in_ok-parts.parts is known.parts;
+      wait_room = wait_room_new c.args.config.now c.args.image.now c.args.steps m c.in_ok-parts.parts is known.parts;
       reached = subst (λ (m : Machine). IsReached m.config m.program m.state) (sym is) (start_reached c.args.config.now (program_of c.args.image.now) (map fresh c.args.image.now.entries) (start_of c.args.image.now).now.memory);
       extents = ap (λ (m : Machine). extents_of m.state.now.memory) is ∙ sym (ap (λ (m : Machine). m.program.sizes) is);
     }

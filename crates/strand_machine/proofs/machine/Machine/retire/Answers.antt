@@ -1,23 +1,25 @@
-use Rattle.std.proofs.Common.{◌≡◌, ◌≤◌, ◌∙◌, length, sym, ap, subst}
+use Rattle.std.proofs.Common.{◌≡◌, ◌≤◌, ◌++◌, [], ◌∷◌, ◌∙◌, length, sym, ap, subst}
 use Rattle.std.specs.Prelude.{IfSome, None, Some}
 use Rattle.strand_inputs.specs.Settings.{Settings}
+use Rattle.strand_events.specs.declared.event.Event.{Event}
 use Rattle.strand_exec.specs.Memory.{extents_of}
 use Rattle.strand_rules.specs.Cycle.{IsReached, core_after, made_turn}
-use Rattle.strand_rules.specs.Machine.{Runs, made_to}
+use Rattle.strand_rules.specs.Machine.{Machine, Runs, made_to}
 use Rattle.strand_rules.specs.Pipeline.{with_memory}
 use Rattle.strand_rules.proofs.WithMemory.{runs_without}
 use Rattle.strand_queue.specs.Queue.{Queue}
+use Rattle.strand_tags.specs.Traces.{noted_wait}
 use Rattle.strand_cache.specs.Seen.{Seen}
 use Rattle.strand_machine.specs.Cached.{CacheStands}
-use Rattle.strand_machine.specs.Changed.{CanQueue}
+use Rattle.strand_machine.specs.Changed.{CanQueue, KeepsWait}
 use Rattle.strand_machine.specs.KeptMachine.{IsHeld, seen}
 use Rattle.strand_machine.specs.Machine.{RingMachine}
 use Rattle.strand_machine.specs.Stand.{PartsSeen, queue_at, tally_at}
 use Rattle.strand_machine.proofs.Fronts.{holds_inside}
 use Rattle.strand_machine.proofs.Held.{held_moved}
 use Rattle.strand_machine.proofs.NextEvent.{IsNext, made_of}
-use Rattle.strand_machine.proofs.Retires.{Enqueued, Retiring, asks, cache_core, cache_is, cache_placed, cache_stands, counts, event_last, held_retired, is_next, item_is, made_parts, made_room, none_next, retired_comes, retired_is, retiring_inside, retiring_reached, rooms_quiet, stand_quiet}
-use Rattle.strand_machine.proofs.machine.Machine.retire.Goals.{After-enqueue, After-keeps, After-newest_item-item, After-note_access, After-retire, In_default, In-Some}
+use Rattle.strand_machine.proofs.Retires.{Enqueued, Retiring, asks, cache_core, cache_is, cache_placed, cache_stands, can_follow, counts, event_last, has_room, held_retired, is_next, item_is, made_parts, made_room, none_next, retired_comes, retired_is, retiring_inside, retiring_reached, rooms_quiet, stand_quiet}
+use Rattle.strand_machine.proofs.machine.Machine.retire.Goals.{After-enqueue, After-keeps, After-newest_item-item, After-note_wait, After-retire, In_default, In-Some}
 use Rattle.strand_machine.proofs.machine.Machine.retire.Goals as goal
 
 retiring : (c : After-keeps) → Retiring (seen c.self.inside) c.args.n c.args.plan c.args.event
@@ -75,7 +77,7 @@ quiet c step to stands sizes =
     held_moved r (core_after r.machine.program r.machine.state n None) c.retire.new.self c.access-loaded.new.self (record r.parts { cache = cache })
     (to ∙ ap (λ o. made_to r.machine (core_after r.machine.program r.machine.state n o)) none) c.access-loaded.ensures.others
     (stand_quiet r step.holds n next cache (subst (λ o. CacheStands r.machine.config (core_after r.machine.program r.machine.state n o) cache) none stands))
-    (rooms_quiet r step.holds n next)
+    (rooms_quiet r step.holds n next) step.holds.wait_room
     (subst (λ o. IsReached r.machine.config r.machine.program (core_after r.machine.program r.machine.state n o)) none (retiring_reached r n c.args.plan c.args.event step)) sizes
 
 pub returns-in_default-clause-parts : goal.returns-in_default-clause-parts
@@ -154,15 +156,47 @@ note_access-requires-clause-made c yes_ =
     counts (seen c.self.inside) c.args.n c.in-Some.event c.access-loaded.new.self.cache c.enqueue.new.self
     (enqueued at.After-enqueue is (cached at.After-retire step) (made at.After-newest_item-item is (moved_on at.In-Some (moved at.After-retire step (runs at.After-keeps)))))
 
+-- its wait can be kept
+pub note_wait-requires-clause-room : goal.note_wait-requires-clause-room
+note_wait-requires-clause-room c yes_ =
+    let at = goal.at.note_wait-requires-clause-room c in
+    let step = retiring at.After-keeps in
+    let is = next at.In-Some step in
+    has_room (seen c.self.inside) c.args.n c.in-Some.event c.access-loaded.new.self.cache c.enqueue.new.self
+    (enqueued at.After-enqueue is (cached at.After-retire step) (made at.After-newest_item-item is (moved_on at.In-Some (moved at.After-retire step (runs at.After-keeps)))))
+    c.note_access.new.self c.next_wait-wait.result.counts c.note_access.ensures.noted c.note_access.ensures.same c.note_access.ensures.others step.room
+
+pub note_wait-requires-clause-made : goal.note_wait-requires-clause-made
+note_wait-requires-clause-made c tag =
+    let at = goal.at.note_wait-requires-clause-made c in
+    let step = retiring at.After-keeps in
+    let is = next at.In-Some step in
+    can_follow (seen c.self.inside) c.args.n c.in-Some.event c.access-loaded.new.self.cache c.enqueue.new.self
+    (enqueued at.After-enqueue is (cached at.After-retire step) (made at.After-newest_item-item is (moved_on at.In-Some (moved at.After-retire step (runs at.After-keeps)))))
+    c.note_access.new.self c.next_wait-wait.result.counts c.note_access.ensures.noted c.note_access.ensures.same c.note_access.ensures.others step.room
+    (sym (ap (λ (g : Settings). g.conflict) (c.config-config.ensures ∙ ap (λ (m : Machine). m.config) c.retire.ensures)) ∙ tag)
+
+-- the wait is what the rules say of the event
+wait_is : (c : After-note_wait) → c.next_wait-wait.result.counts ≡ noted_wait c.self.inside.pipeline.config.conflict c.self.inside.pipeline.config.mode (c.self.inside.pipeline.state.now.trace ++ c.in-Some.event ∷ []) (length c.self.inside.pipeline.state.now.trace)
+wait_is c =
+    let of : RingMachine → Event → Type 0 = λ r e. c.next_wait-wait.result.counts ≡ noted_wait r.machine.config.conflict r.machine.config.mode (r.machine.state.now.trace ++ e ∷ []) (length r.machine.state.now.trace) in
+    let told : IfSome (Some c.in-Some.event) (of c.args.self.now) = subst (λ o. IfSome o (of c.args.self.now)) c.in-Some.is c.next_wait-wait.ensures in
+    subst (λ r. of r c.in-Some.event) (sym c.self.view_is) told
+
+-- it is kept by the machine's settings
+kept : (c : After-note_wait) → KeepsWait c.self.inside.pipeline.config c.note_access.new.self c.note_wait.new.self c.args.n c.in-Some.event c.next_wait-wait.result.counts
+kept c = subst (λ g. KeepsWait g c.note_access.new.self c.note_wait.new.self c.args.n c.in-Some.event c.next_wait-wait.result.counts) (c.config-config.ensures ∙ ap (λ (m : Machine). m.config) c.retire.ensures) c.note_wait.ensures.kept
+
 -- what the fields keep with it
-held : (c : After-note_access) → Retiring (seen c.self.inside) c.args.n c.args.plan c.args.event → Enqueued (seen c.self.inside) c.args.n c.in-Some.event c.access-loaded.new.self.cache c.enqueue.new.self
+held : (c : After-note_wait) → Retiring (seen c.self.inside) c.args.n c.args.plan c.args.event → Enqueued (seen c.self.inside) c.args.n c.in-Some.event c.access-loaded.new.self.cache c.enqueue.new.self
     → with_memory c.access-loaded.new.self.cache.memory c.retire.new.self ≡ made_to (seen c.self.inside).machine (core_after c.self.inside.pipeline.program (seen c.self.inside).machine.state c.args.n (Some c.in-Some.event))
     → extents_of c.access-loaded.new.self.cache.memory ≡ c.self.inside.pipeline.program.sizes
-    → IsHeld (record { pipeline = c.retire.new.self; parts = c.note_access.new.self })
+    → IsHeld (record { pipeline = c.retire.new.self; parts = c.note_wait.new.self })
 held c step queued to sizes =
     let r = seen c.self.inside in
     let n = c.args.n in
-    held_retired r n c.in-Some.event c.access-loaded.new.self.cache c.enqueue.new.self queued c.note_access.new.self c.note_access.ensures.noted c.note_access.ensures.same c.note_access.ensures.others c.retire.new.self to
+    held_retired r n c.in-Some.event c.access-loaded.new.self.cache c.enqueue.new.self queued c.note_access.new.self c.next_wait-wait.result.counts c.note_access.ensures.noted c.note_access.ensures.same c.note_access.ensures.others
+    c.note_wait.new.self (kept c) c.note_wait.ensures.others (wait_is c) c.retire.new.self to
     (subst (λ o. IsReached r.machine.config r.machine.program (core_after r.machine.program r.machine.state n o)) c.in-Some.is (retiring_reached r n c.args.plan c.args.event step)) sizes
 
 pub returns-clause-machine : goal.returns-clause-machine
@@ -172,7 +206,8 @@ returns-clause-machine c =
     let is = next at.In-Some step in
     let to = moved at.After-retire step (runs at.After-keeps) in
     let queued = enqueued at.After-enqueue is (cached at.After-retire step) (made at.After-newest_item-item is (moved_on at.In-Some to)) in
-    ap (λ (cache : Seen). with_memory cache.memory c.retire.new.self) (cache_is (seen c.self.inside) c.args.n c.in-Some.event c.access-loaded.new.self.cache c.enqueue.new.self queued c.note_access.new.self c.note_access.ensures.noted c.note_access.ensures.same c.note_access.ensures.others)
+    ap (λ (cache : Seen). with_memory cache.memory c.retire.new.self) (cache_is (seen c.self.inside) c.args.n c.in-Some.event c.access-loaded.new.self.cache c.enqueue.new.self queued
+    c.note_access.new.self c.next_wait-wait.result.counts c.note_access.ensures.noted c.note_access.ensures.same c.note_access.ensures.others c.note_wait.new.self (kept at.After-note_wait) c.note_wait.ensures.others)
     ∙ to ∙ ap (λ (r : RingMachine). made_to r.machine (core_after r.machine.program r.machine.state c.args.n c.args.event)) c.self.view_is
 
 pub returns-clause-parts : goal.returns-clause-parts
@@ -181,7 +216,7 @@ returns-clause-parts c =
     let step = retiring at.After-keeps in
     let is = next at.In-Some step in
     let to = moved_on at.In-Some (moved at.After-retire step (runs at.After-keeps)) in
-    (held at.After-note_access step (enqueued at.After-enqueue is (cached at.After-retire step) (made at.After-newest_item-item is to)) to (extents at.After-retire step)).stand
+    (held at.After-note_wait step (enqueued at.After-enqueue is (cached at.After-retire step) (made at.After-newest_item-item is to)) to (extents at.After-retire step)).stand
 
 pub invariant_of-self-2 : goal.invariant_of-self-2
 invariant_of-self-2 c =
@@ -189,4 +224,4 @@ invariant_of-self-2 c =
     let step = retiring at.After-keeps in
     let is = next at.In-Some step in
     let to = moved_on at.In-Some (moved at.After-retire step (runs at.After-keeps)) in
-    held at.After-note_access step (enqueued at.After-enqueue is (cached at.After-retire step) (made at.After-newest_item-item is to)) to (extents at.After-retire step)
+    held at.After-note_wait step (enqueued at.After-enqueue is (cached at.After-retire step) (made at.After-newest_item-item is to)) to (extents at.After-retire step)

@@ -30,8 +30,8 @@ reached c =
     let room : length m.state.flight < m.config.flight = subst (λ (r : RingMachine). length r.machine.state.flight < r.machine.config.flight) (sym c.self.view_is) c.requires.flight in
     send_reached m c.args.n c.args.b c.args.j c.args.p (holds c).reached (sym (slot c).at) (ne_eqb (length m.state.flight) m.config.flight (λ e. omega (arith, room, e)))
 
-pub send-requires-clause-waits : goal.send-requires-clause-waits
-send-requires-clause-waits c = (slot (goal.at.send-requires-clause-waits c).After-keeps).waits
+pub send-requires-clause-buffered : goal.send-requires-clause-buffered
+send-requires-clause-buffered c = (slot (goal.at.send-requires-clause-buffered c).After-keeps).buffered
 
 pub send-requires-clause-reached : goal.send-requires-clause-reached
 send-requires-clause-reached c = (c.self.inside.parts.cache.memory, reached (goal.at.send-requires-clause-reached c).After-keeps)
@@ -47,13 +47,13 @@ held c all is comes =
     let r = seen c.self.inside in
     let m = r.machine in
     let p = c.args.p in
-    let within = (waiting_taken m all.reached all.kept p is.waits).within in
+    let within = (waiting_taken m all.reached all.kept p is.buffered).within in
     let parts_are = c.send-2.ensures ∙ ap (with_sent r.parts) is.request in
     let moved : with_memory c.send-2.new.self.cache.memory c.send.new.self ≡ made_to m (send_after m.state (Some p)) =
     ap (λ (q : PartsSeen). with_memory q.cache.memory c.send.new.self) parts_are ∙ ap (with_memory r.parts.cache.memory) c.send.ensures in
     held_moved r (send_after m.state (Some p)) c.send.new.self c.send-2.new.self (with_sent r.parts (request_at m.config m.state p)) moved parts_are
     (stand_sent m.config m.state p is.persist m.program.sizes r.parts all.stand is.core (mod_below (strand_number m.config.mode m.state.now.trace p) m.config.buffers all.buffers)
-    (omega (arith, within, all.kept.buffered)) is.undone) all.rooms comes all.extents
+    (omega (arith, within, all.kept.buffered)) is.undone) all.rooms all.wait_room comes all.extents
 
 pub returns-clause-machine : goal.returns-clause-machine
 returns-clause-machine c =

@@ -139,7 +139,7 @@ held : (g : Over) (c : After-release g) (all : Holds (seen c.self.inside)) (b b'
 held g c all b b' w =
     let r = seen c.self.inside in
     held_moved r (write_after r.machine.state c.args.j (Some c.persist_at-p.result)) c.write-in-Written.new.self c.release.new.self (parts_after g c) (moved g c) (parts_are g c) w.after
-    (rooms_with r.machine r.parts c.in-Written.r.core _ all.stand.tally_count refl all.rooms) (comes r all c.write.new.self.control b b' c.args.j c.in-Written.r c.persist_at-p.result w) all.extents
+    (rooms_with r.machine r.parts c.in-Written.r.core _ all.stand.tally_count refl all.rooms) all.wait_room (comes r all c.write.new.self.control b b' c.args.j c.in-Written.r c.persist_at-p.result w) all.extents
 
 pub returns-in-Written-clause-parts : goal.returns-in-Written-clause-parts
 returns-in-Written-clause-parts g c =

@@ -10,7 +10,7 @@ use Rattle.strand_rules.proofs.pipeline.Pipeline.eligible_at.Goals as goal
 pub returns-clause-eligible : goal.returns-clause-eligible
 returns-clause-eligible c =
     let m = seen c.self.inside in
-    let g = settings_of c.config.inside.mode c.config.inside.buffers in
+    let g = settings_of c.config.inside.mode c.config.inside.buffers c.config.inside.conflict in
     c.eligible_at.ensures.eligible
     ∙ ap (λ marks. slice_get (eligible g (state_of m.state.now.trace [] marks [] c.deref-2.result.now) c.args.n c.args.b) c.args.j) c.deref.ensures.value
     ∙ ap (λ marks. slice_get (eligible g (state_of m.state.now.trace [] m.state.buffered [] marks) c.args.n c.args.b) c.args.j) c.deref-2.ensures.value
