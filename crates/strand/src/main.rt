@@ -6,13 +6,11 @@ use std::env;
 use std::io::ErrorKind;
 use std::process::ExitCode;
 use strand_app::strand_main;
-use strand_base::{HostFiles, HostSink, PmModule};
-use strand_modules::{ModuleBank, RamModule};
+use strand_base::{HostFiles, HostSink, MOST_DATA, PmModule};
+use strand_modules::{MOST_MODULES, ModuleBank, RamModule};
 
-/// How many memory modules the bank has.
-const MODULES: u32 = 8;
-/// The words of each: together as many as an image can have persistent words.
-const MODULE_WORDS: u64 = 16_384;
+/// The words of each memory module: together as many as an image can have persistent words.
+const MODULE_WORDS: u64 = MOST_DATA as u64 / MOST_MODULES as u64;
 /// The exit status where there is no memory for the arguments or the modules.
 const NO_MEMORY: u8 = 7;
 /// The exit status where the arguments can't be had for another cause: one of them is not UTF-8.
@@ -29,7 +27,7 @@ fn main(rt: HostRuntime) -> ExitCode {
         return ExitCode::from(NO_MEMORY);
     };
     let mut modules: Vec<Box<dyn PmModule>> = Vec::new(alloc);
-    for _ in 0..MODULES {
+    for _ in 0..MOST_MODULES {
         let Ok(module) = RamModule::new(alloc, MODULE_WORDS) else {
             return ExitCode::from(NO_MEMORY);
         };

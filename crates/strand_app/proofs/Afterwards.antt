@@ -1,4 +1,4 @@
--- What a call leaves in the bank, from what each answer of its rule means: once for all rules.
+-- Serves clause afterwards of strand_main: what a call leaves in the bank, by what each answer of its rule means.
 use Rattle.std.proofs.Common.{◌≡◌, Bool, true, false, refl, sym, inl, inr, subst}
 use Rattle.std.specs.Prelude.{Some, None}
 use Rattle.std.specs.declared.option.Option.{Option}

@@ -1,4 +1,4 @@
--- The whole call by its command, and the clauses on words that are no command and on memory.
+-- Serves clauses runs, no_command and memory of strand_main: the whole call by its command.
 use Rattle.std.proofs.Common.{◌≡◌, [], refl, ap, arith, inl, inr}
 use Rattle.std.specs.Prelude.{Some, None, Ok, Err, IfOk, OnErr}
 use Rattle.std.specs.declared.option.Option.{Option}
@@ -6,7 +6,7 @@ use Rattle.std.specs.declared.result.Result.{Result}
 use Rattle.strand_base.specs.SinkSeen.{SinkSeen}
 use Rattle.strand_base.specs.declared.out_of_memory.OutOfMemory.{OutOfMemory}
 use Rattle.strand_modules.specs.Bank.{BankSeen}
-use Rattle.strand_modules.proofs.Fronts.{keeps_same}
+use Rattle.strand_modules.proofs.FrontWords.{keeps_same}
 use Rattle.strand_report.specs.FaultLines.{words_fault}
 use Rattle.strand_app.specs.declared.status.Made.{Made}
 use Rattle.strand_app.specs.declared.status.Status.{Status}
@@ -20,7 +20,7 @@ use Rattle.strand_app.specs.Rule.{Rule}
 use Rattle.strand_app.specs.RuleOf.{rule_of}
 use Rattle.strand_app.specs.Runs.{Comes, ComesTo, GivesUp, Runs, Stops}
 use Rattle.strand_app.specs.World.{World, Outside}
-use Rattle.strand_app.proofs.Opened.{first_none}
+use Rattle.strand_app.proofs.OpensTo.{first_none}
 
 -- the words are no command
 pub no_command_runs : (before : World) (sink sink' : SinkSeen) (result : Status) → Ends status.Words words_fault sink sink' result

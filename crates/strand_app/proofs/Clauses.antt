@@ -1,4 +1,4 @@
--- The clauses of the whole call, from what each answer of its rule means: once for all rules.
+-- Serves each clause of strand_main but runs and no_command, by what each answer of its rule means.
 use Rattle.std.proofs.Common.{◌≡◌, ◌++◌, ◌∷◌, [], append-nil, ℕ, Bool, true, false, List, refl, sym, ap, ◌∙◌, arith, inl, inr, subst}
 use Rattle.std.specs.Prelude.{◌≢◌, ◌⊎◌, Some, None, Ok, Err, IsSomeAnd, IsSome, slice_index}
 use Rattle.std.specs.declared.option.Option.{Option}
@@ -16,7 +16,7 @@ use Rattle.strand_app.specs.declared.status.Status.{Status}
 use Rattle.strand_app.specs.declared.status.Status.TheVariants as status
 use Rattle.strand_app.specs.Answers.{content_status, refusal_status}
 use Rattle.strand_app.specs.Causes.{FileCause, RefusalCause, ModuleCause, SinkCause, TellsRefusal, IsRefused, AnswersRefusal, IsPutWhole}
-use Rattle.strand_app.specs.Completeness.{IsQuiet, AreInOrder, IsAnswer, IsWhole}
+use Rattle.strand_app.specs.Completeness.{IsQuiet, NothingIsRefused, IsAnswer, IsWholeAnswer}
 use Rattle.strand_app.specs.Ends.{Ends, PutsAll}
 use Rattle.strand_app.specs.Files.{AreFirst, Says, Opened}
 use Rattle.strand_app.specs.Reads.{Contents, Reads}
@@ -311,7 +311,7 @@ module _ (r : Rule) (W : Type 0) (sound : Sound r W) (before after : Outside) wh
       go (inl puts) = of_made ends.made puts
       go (inr fails) = inr (inr (inl fails.status))
 
-  module _ (is_command : W → ⊥) (quiet : IsQuiet before after) (good : AreInOrder r before) where
+  module _ (is_command : W → ⊥) (quiet : IsQuiet before after) (good : NothingIsRefused r before) where
     answered : (end : Status) (text : Text) (made : Makes r before.world after.world end text) → Means r W made.found made.fault end text → IsAnswer end
     answered status.Ok text made means = inl refl
     answered status.No text made means = inr refl
@@ -323,11 +323,11 @@ module _ (r : Rule) (W : Type 0) (sound : Sound r W) (before after : Outside) wh
     is_told end (inl e) = inl e
     is_told end (inr e) = inr (inl e)
 
-    pub complete_of : (result : Status) → Runs r before after result → IsWhole r before after result
+    pub complete_of : (result : Status) → Runs r before after result → IsWholeAnswer r before after result
     complete_of result (inl up) = inl up
     complete_of result (inr ends) = go ends.made ends.put
       where
-        go : ComesTo r before.world after.world ends.end ends.text → Ends ends.end ends.text before.sink after.sink result → IsWhole r before after result
+        go : ComesTo r before.world after.world ends.end ends.text → Ends ends.end ends.text before.sink after.sink result → IsWholeAnswer r before after result
         go made (inr fails) = absurd (quiet.sink (omega (arith, fails.takes.front.quiet, fails.takes.rose)))
         go (inr (inl refuses)) (inl puts) = absurd (good refuses.opened.contents refuses.refused refuses.opened.says)
         go (inr (inr misses)) (inl puts) = absurd (quiet.files misses.missed.fails.rose)

@@ -1,11 +1,11 @@
--- What comes of a command, from what came of its files and of its run: for the calls of the commands.
+-- Serves clause runs of strand_main, for each command: what comes of it, by its files and its run.
 use Rattle.std.proofs.Common.{ℕ, List, [], refl, inl, inr}
 use Rattle.std.specs.Prelude.{Some, None, Ok, Err, IfOk}
 use Rattle.std.specs.declared.result.Result.{Result}
 use Rattle.strand_base.specs.FilesSeen.{FilesSeen}
 use Rattle.strand_base.specs.declared.out_of_memory.OutOfMemory.{OutOfMemory as NoMemory}
 use Rattle.strand_modules.specs.Bank.{BankSeen}
-use Rattle.strand_modules.proofs.Fronts.{keeps_same}
+use Rattle.strand_modules.proofs.FrontWords.{keeps_same}
 use Rattle.strand_run.specs.Fault.{Course}
 use Rattle.strand_run.specs.Inputs.{Inputs}
 use Rattle.strand_app.specs.declared.fetching.OpenFault.{OpenFault}

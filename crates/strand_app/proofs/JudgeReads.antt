@@ -1,4 +1,4 @@
--- How the files of a question to the judge are read: for the call that opens them.
+-- Serves clause runs of strand_main, for judge: how the files of a question to the judge are read.
 use Rattle.std.proofs.Common.{◌≡◌, ℕ, List, [], ◌∷◌, ◌++◌, length, length-append, refl, ap, ◌∙◌, arith, subst}
 use Rattle.std.specs.Prelude.{Ok, Err, Some, IfOk, slice_get}
 use Rattle.std.specs.declared.result.Result.{Result}
@@ -12,8 +12,8 @@ use Rattle.strand_app.specs.Contents.{crash_in}
 use Rattle.strand_app.specs.Fetching.{FetchesOne, FetchGives}
 use Rattle.strand_app.specs.Files.{FetchesFirst, WantsNext, Opened}
 use Rattle.strand_app.specs.Reads.{Contents, Reads, in_file, then_reads, given}
-use Rattle.strand_app.specs.RunFiles.{run_files, settled}
-use Rattle.strand_app.proofs.Opened.{reads_more, first_among, first_more}
+use Rattle.strand_app.specs.RunFiles.{run_files, cut_off}
+use Rattle.strand_app.proofs.OpensTo.{reads_more, first_among, first_more}
 use Rattle.strand_app.proofs.RunReads.{one_more}
 
 -- the contents of three files
@@ -64,15 +64,15 @@ module _ (names : List (List ℕ)) (crash : List ℕ) (three : length names ≡ 
     asks (Ok run) = refl
     asks (Err refused) = refl
 
-    behind : (result : Result Inputs Refusal) → settled size stop u ≡ record { fetches = 0; result = result } → (others : Contents)
+    behind : (result : Result Inputs Refusal) → cut_off size stop u ≡ record { fetches = 0; result = result } → (others : Contents)
         → judge_reads size stop (contents ++ content ∷ others) ≡ record { fetches = 4; result = asked result }
     behind result cut others =
         ap (λ (r : Reads Inputs). then_reads r.fetches r.result (crash_reads size stop (contents ++ content ∷ others))) (says (content ∷ others))
-        ∙ ap (λ (r : Result (List ℕ) ContentFault). then_reads {V = Inputs} 3 (Ok u) (λ all. then_reads 1 (in_file 4 r) (λ c. then_reads (settled size stop all).fetches (settled size stop all).result (λ run. given (record { run = run; crash = c }))))) is
+        ∙ ap (λ (r : Result (List ℕ) ContentFault). then_reads {V = Inputs} 3 (Ok u) (λ all. then_reads 1 (in_file 4 r) (λ c. then_reads (cut_off size stop all).fetches (cut_off size stop all).result (λ run. given (record { run = run; crash = c }))))) is
         ∙ ap (λ (r : Reads Inputs). then_reads {V = Inputs} 3 (Ok u) (λ all. then_reads {V = List ℕ} 1 (Ok words) (λ c. then_reads r.fetches r.result (λ run. given (question run))))) cut
         ∙ ap (λ (r : Reads Question). then_reads {V = Inputs} 3 (Ok u) (λ all. then_reads {V = List ℕ} 1 (Ok words) (λ c. r))) (asks result)
 
-    pub opens_question : (result : Result Inputs Refusal) → settled size stop u ≡ record { fetches = 0; result = result } → Opened (names ++ crash ∷ []) (judge_reads size stop) before after (asked result)
+    pub opens_question : (result : Result Inputs Refusal) → cut_off size stop u ≡ record { fetches = 0; result = result } → Opened (names ++ crash ∷ []) (judge_reads size stop) before after (asked result)
     opens_question result cut =
         let more = first_more (names ++ crash ∷ []) before between after contents crash first at one content gives in
         record { contents = contents ++ content ∷ []; says = record { first = more.first; is = behind result cut }; fetched = more; all = whole result }

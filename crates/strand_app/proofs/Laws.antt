@@ -1,4 +1,4 @@
--- What every rule owes, for the clauses of the whole call.
+-- Serves each clause of strand_main but runs and no_command: what every rule owes.
 use Rattle.std.specs.Prelude.{◌≡◌, None, Some, IsSomeAnd}
 use Rattle.std.specs.declared.option.Option.{Option}
 use Rattle.strand_modules.specs.Bank.{BankSeen}

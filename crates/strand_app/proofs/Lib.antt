@@ -1,10 +1,10 @@
-pub mod Read
-pub mod Opened
+pub mod FetchesFile
+pub mod OpensTo
 pub mod RunReads
 pub mod JudgeReads
-pub mod Ran
+pub mod RunsOnBank
 pub mod Comes
-pub mod Generated
+pub mod GenCommands
 pub mod Summary
 pub mod Laws
 pub mod RuleLaws

@@ -1,4 +1,4 @@
--- Each command's rule keeps to the laws.
+-- Serves each clause of strand_main but runs and no_command: each command's rule keeps to the laws.
 use Rattle.std.proofs.Common.{◌≡◌, ◌∙◌, ℕ, ◌-◌, List, [], take, refl, sym, subst}
 use Rattle.std.specs.Prelude.{Some, None, OnSome}
 use Rattle.std.specs.declared.option.Option.{Option}
@@ -14,7 +14,7 @@ use Rattle.strand_rules.specs.declared.turn.StepFault.{StepFault}
 use Rattle.strand_run.specs.Fault.{Course, fill, ran}
 use Rattle.strand_run.specs.Inputs.{Inputs}
 use Rattle.strand_run.specs.Seen.{ReportsRun, visible_after, durable_after, view_after, store_fault}
-use Rattle.strand_run.proofs.Allowed.{leaves_allowed, may_leave_allowed}
+use Rattle.strand_run.proofs.LeavesAllowed.{leaves_allowed, may_leave_allowed}
 use Rattle.strand_app.specs.declared.status.Status.{Status}
 use Rattle.strand_app.specs.declared.status.Status.TheVariants as status
 use Rattle.strand_app.specs.Causes.{EndsWith, TellsRefusal}

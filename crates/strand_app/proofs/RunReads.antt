@@ -1,8 +1,8 @@
--- How the files of a run are read, from what each of them says: for the calls that open them.
+-- Serves clause runs of strand_main, for run, trace and judge: how the files of a run are read.
 use Rattle.std.proofs.Common.{◌≡◌, ℕ, ◌+◌, ◌<◌, ◌≤◌, List, [], ◌∷◌, length, refl, ap, ◌∙◌, arith}
 use Rattle.std.specs.Prelude.{Ok, Err, IfOk}
 use Rattle.std.specs.declared.result.Result.{Result}
-use Rattle.strand_image.specs.Parts.{Parts}
+use Rattle.strand_image.specs.ImageSeen.{ImageSeen}
 use Rattle.strand_inputs.specs.Settings.{Settings}
 use Rattle.strand_inputs.specs.declared.step.Step.{Step}
 use Rattle.strand_report.specs.declared.refusal.Refusal.{Refusal}
@@ -12,9 +12,9 @@ use Rattle.strand_run.specs.Inputs.{Inputs, inputs}
 use Rattle.strand_app.specs.Contents.{machine_in, image_in, schedule_in}
 use Rattle.strand_app.specs.Files.{WantsNext, Opened}
 use Rattle.strand_app.specs.Reads.{Contents, Reads, in_file, then_reads}
-use Rattle.strand_app.specs.RunFiles.{run_files, settled}
+use Rattle.strand_app.specs.RunFiles.{run_files, cut_off}
 use Rattle.strand_app.specs.Commands.Run.{run_reads}
-use Rattle.strand_app.proofs.Opened.{reads_more}
+use Rattle.strand_app.proofs.OpensTo.{reads_more}
 
 pub one_more : {n m : ℕ} → 1 ≤ m → n < n + m
 one_more some = omega (arith, some)
@@ -32,7 +32,7 @@ module _ (c1 : List ℕ) (config : Settings) (e1 : machine_in c1 ≡ Ok config) 
   pub image_refused : (content : List ℕ) (refused : Refusal) → in_file 2 (image_in content) ≡ Err refused → (others : Contents) → run_files (c1 ∷ content ∷ others) ≡ record { fetches = 2; result = Err refused }
   image_refused content refused is others = rw (e1, is) refl
 
-  module _ (c2 : List ℕ) (image : Parts) (e2 : image_in c2 ≡ Ok image) where
+  module _ (c2 : List ℕ) (image : ImageSeen) (e2 : image_in c2 ≡ Ok image) where
     pub wants_schedule : WantsNext run_files (c1 ∷ c2 ∷ [])
     wants_schedule others = rw (e1, e2) (one_then (one_more (reads_more 1 _ _)))
 
@@ -45,11 +45,11 @@ module _ (c1 : List ℕ) (config : Settings) (e1 : machine_in c1 ≡ Ok config) 
     all_read c3 steps is others = rw (e1, e2, is) refl
 
 -- what is run of the files that were read
-pub settles : (names : List (List ℕ)) (size : ℕ) (stop : Stop) (u : Inputs) (before after : FilesSeen) (result : Result Inputs Refusal) → settled size stop u ≡ record { fetches = 0; result = result }
+pub cuts_off : (names : List (List ℕ)) (size : ℕ) (stop : Stop) (u : Inputs) (before after : FilesSeen) (result : Result Inputs Refusal) → cut_off size stop u ≡ record { fetches = 0; result = result }
     → Opened names run_files before after (Ok u) → Opened names (run_reads size stop) before after result
-settles names size stop u before after result is opened = record {
+cuts_off names size stop u before after result is opened = record {
   contents = opened.contents;
-  says = record { first = opened.says.first; is = λ others. ap (λ (r : Reads Inputs). then_reads r.fetches r.result (settled size stop)) (opened.says.is others) ∙ behind };
+  says = record { first = opened.says.first; is = λ others. ap (λ (r : Reads Inputs). then_reads r.fetches r.result (cut_off size stop)) (opened.says.is others) ∙ behind };
   fetched = opened.fetched;
   all = whole result;
 }
@@ -57,7 +57,7 @@ settles names size stop u before after result is opened = record {
     none : length opened.contents + 0 ≡ length opened.contents
     none = omega arith
 
-    behind : ◌≡◌ {A = Reads Inputs} (record { fetches = length opened.contents + (settled size stop u).fetches; result = (settled size stop u).result }) (record { fetches = length opened.contents; result = result })
+    behind : ◌≡◌ {A = Reads Inputs} (record { fetches = length opened.contents + (cut_off size stop u).fetches; result = (cut_off size stop u).result }) (record { fetches = length opened.contents; result = result })
     behind = ap (λ (r : Reads Inputs). record { fetches = length opened.contents + r.fetches; result = r.result }) is ∙ ap (λ (n : ℕ). record { fetches = n; result = result }) none
 
     whole : (result : Result Inputs Refusal) → IfOk result (λ _. length opened.contents ≡ length names)

@@ -1,4 +1,4 @@
--- The summary of a generated run, and the answer where a module refused.
+-- Serves clause runs of strand_main, for gen: its summary, and the answer where a module refused.
 use Rattle.std.proofs.Common.{◌≡◌, ℕ, List, length, refl, sym, ap, ◌∙◌, subst}
 use Rattle.std.specs.Prelude.{None, Some, Ok, Err, IfOk, OnSome}
 use Rattle.std.specs.Option.{option_map}
@@ -21,14 +21,14 @@ use Rattle.strand_run.specs.Summed.{Sums}
 use Rattle.strand_run.specs.declared.running.Run.{Run}
 use Rattle.strand_run.specs.declared.running.RunEnd.{RunEnd}
 use Rattle.strand_run.specs.declared.running.RunEnd.TheVariants.{FillRefused, ReadRefused, Told}
-use Rattle.strand_run.proofs.Allowed.{leaves_allowed}
+use Rattle.strand_run.proofs.LeavesAllowed.{leaves_allowed}
 use Rattle.strand_app.specs.declared.opening.Setup.{Setup}
 use Rattle.strand_app.specs.declared.status.Made.{Made}
 use Rattle.strand_app.specs.Commands.Gen.{PutsFault, PutsGen, PutsLines, PutsSummary, refused_in}
 use Rattle.strand_app.specs.Opening.{inputs_of}
 use Rattle.strand_app.specs.Running.{MakesByCourse}
 use Rattle.strand_app.specs.Summing.{TellsSummary}
-use Rattle.strand_app.proofs.Ran.{may_leave}
+use Rattle.strand_app.proofs.RunsOnBank.{may_leave}
 
 -- what a module refused, by the end of the run
 abbrev pub refusal_of : RunEnd → Option ModuleFault

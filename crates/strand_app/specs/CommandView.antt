@@ -34,9 +34,9 @@ abbrev pub trace_rule_in : RunWords → BankSeen → Rule
 trace_rule_in words = trace_rule words.machine.now words.image.now words.schedule.now words.stop
 
 -- the command that the words are
-abbrev pub asked : List (String Global) → Option Command
-asked words = command_of (map string_bytes words)
+abbrev pub command_asked : List (String Global) → Option Command
+command_asked words = command_of (map string_bytes words)
 
 -- and its rule
 abbrev pub asked_rule : List (String Global) → BankSeen → Rule
-asked_rule words bank = rule_of (asked words) bank
+asked_rule words bank = rule_of (command_asked words) bank

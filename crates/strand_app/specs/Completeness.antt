@@ -18,13 +18,13 @@ pub record IsQuiet (before after : Outside) : Type 0 where
   pub sink : Rose before.sink.faults after.sink.faults → ⊥
 
 -- Nothing that the words and the files may say is refused.
-abbrev pub AreInOrder : Rule → Outside → Type 0
-AreInOrder r before = (contents : Contents) (refused : Refusal) → Says r.names r.opens before.world.files.told contents (Err refused) → ⊥
+abbrev pub NothingIsRefused : Rule → Outside → Type 0
+NothingIsRefused r before = (contents : Contents) (refused : Refusal) → Says r.names r.opens before.world.files.told contents (Err refused) → ⊥
 
 -- Ok, or a judge's no.
 abbrev pub IsAnswer : Status → Type 0
 IsAnswer result = (result ≡ status.Ok) ⊎ (result ≡ status.No)
 
 -- Memory ran out and nothing was put, or the whole text was put that the rule tells.
-abbrev pub IsWhole : Rule → Outside → Outside → Status → Type 0
-IsWhole r before after result = GivesUp r before after result ⊎ (IsAnswer result × Tells r before after result)
+abbrev pub IsWholeAnswer : Rule → Outside → Outside → Status → Type 0
+IsWholeAnswer r before after result = GivesUp r before after result ⊎ (IsAnswer result × Tells r before after result)

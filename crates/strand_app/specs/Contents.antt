@@ -1,10 +1,11 @@
 -- What one file says, by its rule, or why its content is refused.
 use Rattle.std.specs.Prelude.{ℕ, List, length, nat_lt, Ok, Err, if◌then◌else◌}
 use Rattle.std.specs.declared.result.Result.{Result}
+use Rattle.strand_app.specs.declared.file_sizes.TheConstants.{MOST_FILE_BYTES, MOST_MACHINE_BYTES, MOST_CRASH_BYTES}
 use Rattle.strand_asm.specs.Assemble.{assembled}
 use Rattle.strand_image.specs.Image.{image_of}
-use Rattle.strand_image.specs.Parts.{Parts}
-use Rattle.strand_inputs.specs.Crash.{crash_of}
+use Rattle.strand_image.specs.ImageSeen.{ImageSeen}
+use Rattle.strand_inputs.specs.Crash.{crash_words_of}
 use Rattle.strand_inputs.specs.Machine.{machine}
 use Rattle.strand_inputs.specs.Schedule.{schedule_of}
 use Rattle.strand_inputs.specs.Settings.{Settings}
@@ -17,23 +18,23 @@ refused_as kind (Ok value) = Ok value
 refused_as kind (Err fault) = Err (kind fault)
 
 -- a file of at most so many bytes
-abbrev pub within : {V E : Type 0} → ℕ → (E → ContentFault) → List ℕ → Result V E → Result V ContentFault
-within most kind bytes said = if nat_lt most (length bytes) then Err (TooLong most) else refused_as kind said
+abbrev pub length_limited : {V E : Type 0} → ℕ → (E → ContentFault) → List ℕ → Result V E → Result V ContentFault
+length_limited most kind bytes said = if nat_lt most (length bytes) then Err (TooLong most) else refused_as kind said
 
 -- an assembler text: the image that it gives
-unfoldable pub text_in : List ℕ → Result Parts ContentFault
-text_in bytes = within 4194304 Text bytes (assembled bytes)
+unfoldable pub text_in : List ℕ → Result ImageSeen ContentFault
+text_in bytes = length_limited MOST_FILE_BYTES Text bytes (assembled bytes)
 
-unfoldable pub image_in : List ℕ → Result Parts ContentFault
-image_in bytes = within 4194304 Image bytes (image_of bytes)
+unfoldable pub image_in : List ℕ → Result ImageSeen ContentFault
+image_in bytes = length_limited MOST_FILE_BYTES Image bytes (image_of bytes)
 
 unfoldable pub machine_in : List ℕ → Result Settings ContentFault
-machine_in bytes = within 4096 Input bytes (machine bytes)
+machine_in bytes = length_limited MOST_MACHINE_BYTES Input bytes (machine bytes)
 
 -- a schedule: its steps are of the image's cores and the machine's buffers
-unfoldable pub schedule_in : Settings → Parts → List ℕ → Result (List Step) ContentFault
-schedule_in config image bytes = within 4194304 Input bytes (schedule_of (length image.entries) config.buffers bytes)
+unfoldable pub schedule_in : Settings → ImageSeen → List ℕ → Result (List Step) ContentFault
+schedule_in config image bytes = length_limited MOST_FILE_BYTES Input bytes (schedule_of (length image.entries) config.buffers bytes)
 
 -- a crash image, of as many words as the image has persistent words
-unfoldable pub crash_in : Parts → List ℕ → Result (List ℕ) ContentFault
-crash_in image bytes = within 1048576 Input bytes (crash_of (length image.persistent) bytes)
+unfoldable pub crash_in : ImageSeen → List ℕ → Result (List ℕ) ContentFault
+crash_in image bytes = length_limited MOST_CRASH_BYTES Input bytes (crash_words_of (length image.persistent) bytes)

@@ -14,9 +14,9 @@ AreFirst told [] (content ∷ contents) = ⊥
 AreFirst told (name ∷ names) (content ∷ contents) = IsFile told name content × AreFirst told names contents
 
 -- so many fetches after a count of them
-abbrev pub fetched : ℕ → ℕ → ℕ
-fetched zero count = count
-fetched (suc n) count = next (fetched n count)
+abbrev pub fetches_after : ℕ → ℕ → ℕ
+fetches_after zero count = count
+fetches_after (suc n) count = next (fetches_after n count)
 
 module _ (names : List (List ℕ)) (before after : FilesSeen) where
   -- The first files were fetched, each once and in order, no fetch failed, and these are their contents.
@@ -24,7 +24,7 @@ module _ (names : List (List ℕ)) (before after : FilesSeen) where
     pub first : AreFirst before.told names contents
     pub told : after.told ≡ before.told
     pub quiet : after.faults ≡ before.faults
-    pub count : after.fetches ≡ fetched (length contents) before.fetches
+    pub count : after.fetches ≡ fetches_after (length contents) before.fetches
     pub last_failed : after.last_failed ≡ before.last_failed
     pub untouched : contents ≡ [] → after ≡ before
 
@@ -34,7 +34,7 @@ module _ (names : List (List ℕ)) (before after : FilesSeen) where
     pub told : after.told ≡ before.told
     pub later : before.faults ≤ after.faults
     pub rose : Rose before.faults after.faults
-    pub count : after.fetches ≡ fetched (suc (length contents)) before.fetches
+    pub count : after.fetches ≡ fetches_after (suc (length contents)) before.fetches
     pub name : IfSome before.told (λ _. after.last_failed ≡ slice_get names (length contents))
 
   -- No memory was left with the file behind the first ones, which was fetched once more at most.
@@ -42,7 +42,7 @@ module _ (names : List (List ℕ)) (before after : FilesSeen) where
     pub first : AreFirst before.told names contents
     pub told : after.told ≡ before.told
     pub later : before.faults ≤ after.faults
-    pub few : (after.fetches ≡ fetched (length contents) before.fetches) ⊎ (after.fetches ≡ fetched (suc (length contents)) before.fetches)
+    pub few : (after.fetches ≡ fetches_after (length contents) before.fetches) ⊎ (after.fetches ≡ fetches_after (suc (length contents)) before.fetches)
 
 -- The first files have these contents, and whatever the others hold, this is what they say.
 pub record Says {V : Type 0} (names : List (List ℕ)) (reads : Contents → Reads V) (told : Option Held) (contents : Contents) (result : Result V Refusal) : Type 0 where

@@ -21,7 +21,7 @@ pub mod Command
 pub mod RuleOf
 pub mod Fetching
 pub mod Opening
-pub mod Settling
+pub mod CutOff
 pub mod Running
 pub mod Judging
 pub mod Summing

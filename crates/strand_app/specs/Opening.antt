@@ -1,6 +1,7 @@
 -- What the code knows of files that it opened.
 use Rattle.std.specs.Prelude.{ℕ, ◌≤◌, List, [], ◌∷◌, All, length, take, Ok, Err}
 use Rattle.std.specs.declared.result.Result.{Result}
+use Rattle.strand_base.specs.declared.limits.TheConstants.{MOST_STEPS}
 use Rattle.strand_asm.specs.declared.fault.AsmFault.{AsmFault}
 use Rattle.strand_asm.specs.declared.fault.AsmFault.TheVariants as text
 use Rattle.strand_base.specs.FilesSeen.{FilesSeen}
@@ -53,12 +54,12 @@ abbrev pub inputs_of : Setup → Inputs
 inputs_of setup = inputs setup.files.config setup.files.image (take setup.stop setup.files.schedule)
 
 -- the steps are of cores and buffers that there are
-abbrev pub AreBelow : RunFiles → Type 0
-AreBelow files = All (IsBelow (length files.image.entries) files.config.buffers) files.schedule
+abbrev pub AreStepsBelow : RunFiles → Type 0
+AreStepsBelow files = All (IsBelow (length files.image.entries) files.config.buffers) files.schedule
 
 -- and the stop is within them, and a bank of so many words has room for the image
 pub record IsReady (size : ℕ) (setup : Setup) : Type 0 where
-  pub below : AreBelow setup.files
-  pub few : length setup.files.schedule ≤ 200000
+  pub below : AreStepsBelow setup.files
+  pub few : length setup.files.schedule ≤ MOST_STEPS
   pub stop : setup.stop ≤ length setup.files.schedule
   pub room : length setup.files.image.persistent ≤ size

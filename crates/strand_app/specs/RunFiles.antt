@@ -27,8 +27,8 @@ abbrev pub bank_holds : ℕ → ℕ → Result (Unit {0}) Refusal
 bank_holds size need = if nat_lt size need then Err (refusal.Bank need size) else Ok tt
 
 -- The steps up to the stop are run, on a bank of so many words.
-abbrev pub settled : ℕ → Stop → Inputs → Reads Inputs
-settled size stop u = do
+abbrev pub cut_off : ℕ → Stop → Inputs → Reads Inputs
+cut_off size stop u = do
   count ← decided (or_past (steps_to stop (length u.steps)))
   _ ← decided (bank_holds size (length u.image.persistent))
   given (record u { steps = take count u.steps })

@@ -5,7 +5,7 @@ use Rattle.strand_base.specs.declared.out_of_memory.OutOfMemory.{OutOfMemory}
 use Rattle.strand_modules.specs.Bank.{BankSeen, Keeps}
 use Rattle.strand_run.specs.Fault.{Course, ran, ShownByBank}
 use Rattle.strand_run.specs.Inputs.{Inputs}
-use Rattle.strand_run.specs.Outcome.{Allows, Leaves, MayLeave, Tells}
+use Rattle.strand_run.specs.Outcome.{Allows, Leaves, MayLeave, TellsRun}
 use Rattle.strand_app.specs.declared.running.Ran.{Ran}
 use Rattle.strand_app.specs.declared.running.Ran.TheVariants.{Whole, Refused}
 use Rattle.strand_app.specs.declared.status.Made.{Made}
@@ -21,7 +21,7 @@ Answers text (Refused made) = (made.status ≡ status.ModuleFault) × (made.text
 
 -- what is known of a run by the fault that it met
 abbrev pub IsRun : Inputs → BankSeen → Course → Ran → Type 0
-IsRun u before fault (Whole run) = (fault ≡ ran None None) × (run.fault ≡ None) × Tells u before run
+IsRun u before fault (Whole run) = (fault ≡ ran None None) × (run.fault ≡ None) × TellsRun u before run
 IsRun u before fault (Refused made) = PutsRun u before (λ end text. ⊥) fault made.status made.text.items
 
 -- This was run on the bank, by one course that it may take.

@@ -30,7 +30,7 @@ module _ (r : Rule) (before after : World) where
     pub puts : r.Puts found fault end text
 
   -- What was given is refused, and the bank wasn't touched.
-  pub record Refuses (end : Status) (text : Text) : Type 0 where
+  pub record RefusesInput (end : Status) (text : Text) : Type 0 where
     pub refused : Refusal
     pub opened : Opened r.names r.opens before.files after.files (Err refused)
     pub same : after.bank ≡ before.bank
@@ -47,7 +47,7 @@ module _ (r : Rule) (before after : World) where
 
   -- what a command comes to, if the sink doesn't fail
   abbrev pub ComesTo : Status → Text → Type 0
-  ComesTo end text = Makes end text ⊎ (Refuses end text ⊎ Misses end text)
+  ComesTo end text = Makes end text ⊎ (RefusesInput end text ⊎ Misses end text)
 
   -- No memory was left for a file, or behind one that didn't come.
   pub record StopsReading : Type 0 where

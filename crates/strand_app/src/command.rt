@@ -1,7 +1,7 @@
 ghost use Rattle.std.specs.Prelude.{◌≡◌};
 ghost use Rattle.std.specs.Option.{option_map};
 ghost use Rattle.strand_app.specs.Command.{one_file, two_numbers, three_files, four_files};
-ghost use Rattle.strand_app.specs.CommandView.{asked, view};
+ghost use Rattle.strand_app.specs.CommandView.{command_asked, view};
 ghost use Rattle.strand_inputs.specs.Machine.{number_of};
 
 use strand_base::read_decimal;
@@ -126,7 +126,7 @@ fn four_files<'a>(
 
 /// The command that the words are. It takes no memory.
 pub fn read_command(words: &[String]) -> Option<Command<'_>>
-    ensures { option_map view result ≡ asked words.now }
+    ensures { option_map view result ≡ command_asked words.now }
 {
     match words {
         [word, file] => one_file(word.as_str(), file.as_str()),

@@ -1,12 +1,14 @@
 // The files of commands, each fetched and read by its rule. A file's number is its place among the names of its
 // command, from 1.
 ghost use Rattle.std.specs.Prelude.{◌≡◌, ◌≤◌, length, All, IfOk};
+ghost use Rattle.strand_app.specs.declared.file_sizes.TheConstants.{MOST_MACHINE_BYTES, MOST_FILE_BYTES, MOST_CRASH_BYTES};
 ghost use Rattle.strand_app.specs.Contents.{crash_in, image_in, machine_in, schedule_in, text_in};
 ghost use Rattle.strand_app.specs.Fetching.{FetchesFile, IsSaid};
 ghost use Rattle.strand_app.specs.Opening.{image_open_fault, input_open_fault, text_open_fault};
 ghost use Rattle.strand_inputs.specs.Schedule.{IsBelow};
 
 use crate::fetching::{OpenFault, fetch};
+use crate::file_sizes::{MOST_CRASH_BYTES, MOST_FILE_BYTES, MOST_MACHINE_BYTES};
 use std::alloc::Global;
 use strand_asm::{AsmFault, assemble};
 use strand_base::Files;
@@ -52,7 +54,7 @@ fn text_fault(file: u32, fault: AsmFault) -> OpenFault
 }
 
 fn machine_of(bytes: &[u8]) -> Result<Config, OpenFault>
-    requires { length bytes.now ≤ 4096 }
+    requires { length bytes.now ≤ MOST_MACHINE_BYTES }
     ensures { IsSaid 1 (λ config. config) (machine_in bytes.now) result }
 {
     match read_machine(bytes) {
@@ -70,12 +72,12 @@ pub fn fetch_machine<F: Files>(
     ensures { FetchesFile 1 machine_in (λ config. config) name.now
         (F.seen files.old) (F.seen files.new) result }
 {
-    let bytes = fetch(alloc, 1, name, 4096, files)?;
+    let bytes = fetch(alloc, 1, name, MOST_MACHINE_BYTES, files)?;
     machine_of(&bytes)
 }
 
 fn image_of(alloc: Global, file: u32, bytes: &[u8]) -> Result<Image, OpenFault>
-    requires { length bytes.now ≤ 4194304 }
+    requires { length bytes.now ≤ MOST_FILE_BYTES }
     ensures { IsSaid file (λ image. image) (image_in bytes.now) result }
 {
     match read_image(alloc, bytes) {
@@ -94,7 +96,7 @@ pub fn fetch_image<F: Files>(
     ensures { FetchesFile file image_in (λ image. image) name.now
         (F.seen files.old) (F.seen files.new) result }
 {
-    let bytes = fetch(alloc, file, name, 4_194_304, files)?;
+    let bytes = fetch(alloc, file, name, MOST_FILE_BYTES, files)?;
     image_of(alloc, file, &bytes)
 }
 
@@ -104,7 +106,7 @@ fn schedule_of(
     image: &Image,
     bytes: &[u8],
 ) -> Result<Schedule, OpenFault>
-    requires { length bytes.now ≤ 4194304 }
+    requires { length bytes.now ≤ MOST_FILE_BYTES }
     ensures says { IsSaid 3 (λ steps. steps) (schedule_in config.now image.now bytes.now) result }
     ensures below { IfOk result (All (IsBelow (length image.now.entries) config.now.buffers)) }
 {
@@ -126,12 +128,12 @@ pub fn fetch_schedule<F: Files>(
         (F.seen files.old) (F.seen files.new) result }
     ensures below { IfOk result (All (IsBelow (length image.now.entries) config.now.buffers)) }
 {
-    let bytes = fetch(alloc, 3, name, 4_194_304, files)?;
+    let bytes = fetch(alloc, 3, name, MOST_FILE_BYTES, files)?;
     schedule_of(alloc, config, image, &bytes)
 }
 
 fn crash_of(alloc: Global, image: &Image, bytes: &[u8]) -> Result<Words, OpenFault>
-    requires { length bytes.now ≤ 1048576 }
+    requires { length bytes.now ≤ MOST_CRASH_BYTES }
     ensures says { IsSaid 4 (λ words. words) (crash_in image.now bytes.now) result }
     ensures long { IfOk result (λ words. length words ≡ length image.now.persistent) }
 {
@@ -152,12 +154,12 @@ pub fn fetch_crash<F: Files>(
         (F.seen files.old) (F.seen files.new) result }
     ensures long { IfOk result (λ words. length words ≡ length image.now.persistent) }
 {
-    let bytes = fetch(alloc, 4, name, 1_048_576, files)?;
+    let bytes = fetch(alloc, 4, name, MOST_CRASH_BYTES, files)?;
     crash_of(alloc, image, &bytes)
 }
 
 fn text_of(alloc: Global, bytes: &[u8]) -> Result<Image, OpenFault>
-    requires { length bytes.now ≤ 4194304 }
+    requires { length bytes.now ≤ MOST_FILE_BYTES }
     ensures { IsSaid 1 (λ image. image) (text_in bytes.now) result }
 {
     match assemble(alloc, bytes) {
@@ -171,6 +173,6 @@ pub fn fetch_text<F: Files>(alloc: Global, name: &str, files: &mut F) -> Result<
     ensures { FetchesFile 1 text_in (λ image. image) name.now
         (F.seen files.old) (F.seen files.new) result }
 {
-    let bytes = fetch(alloc, 1, name, 4_194_304, files)?;
+    let bytes = fetch(alloc, 1, name, MOST_FILE_BYTES, files)?;
     text_of(alloc, &bytes)
 }

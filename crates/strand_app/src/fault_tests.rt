@@ -129,7 +129,7 @@ fn calls_of(alloc: Global, case: Case<'_>) -> Result<Vec<Call>, Fail> {
 // The module accepted the call.
 fn accept(due: &mut Outcome, call: Call) {
     if call.phase == Phase::Read {
-        due.accepted.loads = due.accepted.loads.wrapping_add(1);
+        due.accepted.reads = due.accepted.reads.wrapping_add(1);
         return;
     }
     due.accepted.stores = due.accepted.stores.wrapping_add(1);

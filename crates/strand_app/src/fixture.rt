@@ -74,7 +74,7 @@ pub fn at_entry(
         words,
         refusals: vec![in alloc; none; outside.modules.len()]?,
         accepted: Accepted {
-            loads: 0,
+            reads: 0,
             stores: 0,
         },
     })

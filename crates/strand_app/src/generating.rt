@@ -1,12 +1,12 @@
 ghost use Rattle.std.specs.Prelude.{IfOk};
 ghost use Rattle.strand_app.specs.Generated.{IsGiven, generated};
-ghost use Rattle.strand_app.specs.Opening.{AreBelow, all_inputs};
+ghost use Rattle.strand_app.specs.Opening.{AreStepsBelow, all_inputs};
 ghost use Rattle.strand_app.specs.Reads.{decided};
 
 use crate::fetching::OpenFault;
 use crate::opening::RunFiles;
 use std::alloc::Global;
-use strand_base::OutOfMemory;
+use strand_base::{MOST_STEPS, OutOfMemory};
 use strand_gen::generate;
 use strand_report::Refusal;
 
@@ -14,9 +14,9 @@ use strand_report::Refusal;
 /// is refused.
 pub fn generated(alloc: Global, seed: u64, size: u64) -> Result<RunFiles, OpenFault>
     ensures given { IsGiven all_inputs (decided (generated seed size)) result }
-    ensures below { IfOk result AreBelow }
+    ensures below { IfOk result AreStepsBelow }
 {
-    if size < 1 || size > 200_000 {
+    if size < 1 || size > u64::from(MOST_STEPS) {
         return Err(OpenFault::Refused(Refusal::Size { size }));
     }
     match generate(alloc, seed, size as u32) {

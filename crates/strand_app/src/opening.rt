@@ -1,7 +1,7 @@
 ghost use Rattle.std.specs.Prelude.{◌≡◌, IfOk};
-ghost use Rattle.strand_app.specs.Opening.{AreBelow, IsReady, OpensTo, all_inputs, inputs_of, names_of};
-ghost use Rattle.strand_app.specs.RunFiles.{run_files, settled};
-ghost use Rattle.strand_app.specs.Settling.{IsSettled};
+ghost use Rattle.strand_app.specs.Opening.{AreStepsBelow, IsReady, OpensTo, all_inputs, inputs_of, names_of};
+ghost use Rattle.strand_app.specs.RunFiles.{run_files, cut_off};
+ghost use Rattle.strand_app.specs.CutOff.{IsCutOff};
 ghost use Rattle.strand_app.specs.Commands.Run.{run_reads};
 
 use crate::command::RunWords;
@@ -46,7 +46,7 @@ pub fn open_run_files<F: Files>(
 ) -> Result<RunFiles, OpenFault>
     ensures opens { OpensTo (names_of words.entry) run_files all_inputs
         (F.seen files.old) (F.seen files.new) result }
-    ensures below { IfOk result AreBelow }
+    ensures below { IfOk result AreStepsBelow }
 {
     let config = fetch_machine(alloc, words.machine, files)?;
     let image = fetch_image(alloc, 2, words.image, files)?;
@@ -59,9 +59,9 @@ pub fn open_run_files<F: Files>(
 }
 
 /// What is run of the files, up to this stop on a bank of so many words.
-pub fn settle(files: RunFiles, stop: Stop, size: u64) -> Result<Setup, Refusal>
-    requires { AreBelow files }
-    ensures settled { IsSettled size stop (all_inputs files) result }
+pub fn cut_off(files: RunFiles, stop: Stop, size: u64) -> Result<Setup, Refusal>
+    requires { AreStepsBelow files }
+    ensures cut_off { IsCutOff size stop (all_inputs files) result }
     ensures same { IfOk result (λ setup. setup.files ≡ files) }
     ensures ready { IfOk result (IsReady size) }
 {
@@ -88,5 +88,5 @@ pub fn open_run<F: Files>(
     ensures ready { IfOk result (IsReady size) }
 {
     let all = open_run_files(alloc, words, files)?;
-    Ok(settle(all, words.stop, size)?)
+    Ok(cut_off(all, words.stop, size)?)
 }

@@ -1,5 +1,5 @@
 ghost use Rattle.std.specs.Prelude.{◌≡◌};
-ghost use Rattle.strand_app.specs.StatusCode.{code_of};
+ghost use Rattle.strand_app.specs.StatusCode.{exit_code_of};
 
 /// How a call ended (docs/program.md).
 #[derive(Clone, Copy, Debug, PartialEq, Eq)]
@@ -29,7 +29,7 @@ pub enum Status {
 impl Status {
     /// The exit status of the process.
     pub fn code(&self) -> u8
-        ensures { result ≡ code_of self.now }
+        ensures { result ≡ exit_code_of self.now }
     {
         match self {
             Status::Ok => 0,

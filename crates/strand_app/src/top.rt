@@ -3,8 +3,8 @@ ghost use Rattle.std.specs.Prelude.{None, Some};
 ghost use Rattle.strand_app.specs.Afterwards.{Afterwards};
 ghost use Rattle.strand_app.specs.Causes.{FileCause, ModuleCause, RefusalCause, SinkCause};
 ghost use Rattle.strand_app.specs.Causes.{AnswersRefusal, IsPutWhole, IsRefused, MemoryCause};
-ghost use Rattle.strand_app.specs.CommandView.{asked, asked_rule, view};
-ghost use Rattle.strand_app.specs.Completeness.{AreInOrder, IsQuiet, IsWhole};
+ghost use Rattle.strand_app.specs.CommandView.{command_asked, asked_rule, view};
+ghost use Rattle.strand_app.specs.Completeness.{NothingIsRefused, IsQuiet, IsWholeAnswer};
 ghost use Rattle.strand_app.specs.Ends.{Ends};
 ghost use Rattle.strand_app.specs.RuleOf.{rule_of};
 ghost use Rattle.strand_app.specs.Runs.{Comes, Runs};
@@ -81,18 +81,18 @@ pub fn strand_main<F: Files, K: Sink>(
         (outside (F.seen files.new) (bank_seen holds bank.new) (K.seen out.new)) result }
 
     // Where nothing is refused and no count rises, memory ran out, or the whole text was put.
-    ensures completeness { (asked words.now ≡ None → ⊥)
+    ensures completeness { (command_asked words.now ≡ None → ⊥)
         → IsQuiet (outside (F.seen files.old) (bank_seen holds bank.old) (K.seen out.old))
         (outside (F.seen files.new) (bank_seen holds bank.new) (K.seen out.new))
-        → AreInOrder (asked_rule words.now (bank_seen holds bank.old))
+        → NothingIsRefused (asked_rule words.now (bank_seen holds bank.old))
         (outside (F.seen files.old) (bank_seen holds bank.old) (K.seen out.old))
-        → IsWhole (asked_rule words.now (bank_seen holds bank.old))
+        → IsWholeAnswer (asked_rule words.now (bank_seen holds bank.old))
         (outside (F.seen files.old) (bank_seen holds bank.old) (K.seen out.old))
         (outside (F.seen files.new) (bank_seen holds bank.new) (K.seen out.new)) result }
 
     // Only words that are no command are answered so, and they always are.
-    ensures words { result ≡ Status.Words → asked words.now ≡ None }
-    ensures no_command { asked words.now ≡ None
+    ensures words { result ≡ Status.Words → command_asked words.now ≡ None }
+    ensures no_command { command_asked words.now ≡ None
         → Ends Status.Words words_fault (K.seen out.old) (K.seen out.new) result }
 
     // A judge's no comes only where no set that the order allows has the crash image.
@@ -126,7 +126,7 @@ pub fn strand_main<F: Files, K: Sink>(
     ensures sink_fault { result ≡ Status.SinkFault → SinkCause (asked_rule words.now (bank_seen holds bank.old))
         (outside (F.seen files.old) (bank_seen holds bank.old) (K.seen out.old))
         (outside (F.seen files.new) (bank_seen holds bank.new) (K.seen out.new)) result }
-    ensures memory { result ≡ Status.Memory → MemoryCause (asked words.now)
+    ensures memory { result ≡ Status.Memory → MemoryCause (command_asked words.now)
         (outside (F.seen files.old) (bank_seen holds bank.old) (K.seen out.old))
         (outside (F.seen files.new) (bank_seen holds bank.new) (K.seen out.new)) }
 

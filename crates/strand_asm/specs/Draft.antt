@@ -2,7 +2,7 @@
 use Rattle.std.specs.Prelude.{ℕ, ℤ, pos, List, [], ◌∷◌, ◌++◌, length, replicate, Result, Ok}
 use Rattle.strand_base.specs.Text.{lines_of}
 use Rattle.strand_isa.specs.Word.{word_of}
-use Rattle.strand_image.specs.Parts.{Parts, parts}
+use Rattle.strand_image.specs.ImageSeen.{ImageSeen, image_seen}
 use Rattle.strand_asm_lines.specs.declared.line.Section.{Section}
 use Rattle.strand_asm_lines.specs.declared.line.Section.TheVariants as sections
 use Rattle.strand_asm_lines.specs.declared.line.Operand.{Operand}
@@ -43,9 +43,9 @@ word_added line _ z = do
   n ← fitted line z (wrapped 9223372036854775808 z)
   Ok (Data n)
 
-abbrev pub words_of : Coded → Addition
-words_of (One i) = Code (word_of i)
-words_of (Two i j) = Pair (word_of i) (word_of j)
+abbrev pub coded_words : Coded → Addition
+coded_words (One i) = Code (word_of i)
+coded_words (Two i j) = Pair (word_of i) (word_of j)
 
 -- what a line adds
 unfoldable pub addition : Layout → Site → Section → Body → Result Addition AsmFault
@@ -56,10 +56,10 @@ addition layout site section (bodies.Word z) = word_added site.line section z
 addition layout site section (bodies.Space n) = Ok (Zeros n)
 addition layout site section (bodies.Code p) = do
   c ← pattern_coded layout.labels site p
-  Ok (words_of c)
+  Ok (coded_words c)
 
 -- data words at the end of a section; the code has none
-abbrev pub with_data : Section → List ℕ → Parts → Parts
+abbrev pub with_data : Section → List ℕ → ImageSeen → ImageSeen
 with_data sections.Code ws p = p
 with_data sections.Volatile ws p = record p { volatile = p.volatile ++ ws }
 with_data sections.Persist ws p = record p { persistent = p.persistent ++ ws }
@@ -79,7 +79,7 @@ drafted layout n d line = do
   Ok (added d more)
 
 unfoldable pub blank : DraftSeen
-blank = record { section = sections.Code; parts = parts [] [] [] [] }
+blank = record { section = sections.Code; parts = image_seen [] [] [] [] }
 
 unfoldable pub draft_of : Layout → List ℕ → Result DraftSeen AsmFault
 draft_of layout text = over_lines (drafted layout) 1 blank (lines_of text)

@@ -1,30 +1,31 @@
 -- The words of an instruction at its place, by the labels of its text.
 use Rattle.std.specs.Prelude.{ℕ, ◌+◌, ◌*◌, ◌/◌, ◌%◌, ℤ, pos, ◌-ℤ◌, List, Option, Some, None, Result, Ok, Err, if◌then◌else◌}
 use Rattle.std.specs.Option.{option_map}
-use Rattle.strand_isa.specs.Codes.{amount_bound}
+use Rattle.strand_base.specs.declared.regions.TheConstants.{PERSISTENT_BASE, VOLATILE_BASE, CODE_BASE}
+use Rattle.strand_isa.specs.Ops.{amount_bound}
 use Rattle.strand_isa.specs.Word.{field_of, IsValid}
-use Rattle.strand_isa.specs.Faults.{is_within}
+use Rattle.strand_isa.specs.Faults.{is_in_range}
 use Rattle.strand_isa.specs.Decode.{signed_of}
 use Rattle.strand_isa.specs.declared.instr.Instr.{Instr}
-use Rattle.strand_isa.specs.declared.instr.Instr.TheVariants.{Upper, Jal, Jalr, Branch, Load, Store, Imm, Shift, Reg}
-use Rattle.strand_isa.specs.declared.instr.UpperOp.{UpperOp}
-use Rattle.strand_isa.specs.declared.instr.BranchOp.{BranchOp}
-use Rattle.strand_isa.specs.declared.instr.LoadOp.{LoadOp}
-use Rattle.strand_isa.specs.declared.instr.StoreOp.{StoreOp}
-use Rattle.strand_isa.specs.declared.instr.ImmOp.{ImmOp}
-use Rattle.strand_isa.specs.declared.instr.ShiftOp.{ShiftOp}
-use Rattle.strand_isa.specs.declared.instr.UpperOp.TheVariants.{Lui}
-use Rattle.strand_isa.specs.declared.instr.ImmOp.TheVariants.{Addi, Addiw}
+use Rattle.strand_isa.specs.declared.instr.Instr.TheVariants.{Upper, Jal, Jalr, Branch, Load, Store, Imm, Shift, Reg, Fence, Ecall, Ebreak, PersistBarrier, NewStrand, JoinStrand}
+use Rattle.strand_isa.specs.declared.ops.UpperOp.{UpperOp}
+use Rattle.strand_isa.specs.declared.ops.BranchOp.{BranchOp}
+use Rattle.strand_isa.specs.declared.ops.LoadOp.{LoadOp}
+use Rattle.strand_isa.specs.declared.ops.StoreOp.{StoreOp}
+use Rattle.strand_isa.specs.declared.ops.ImmOp.{ImmOp}
+use Rattle.strand_isa.specs.declared.ops.ShiftOp.{ShiftOp}
+use Rattle.strand_isa.specs.declared.ops.RegOp.{RegOp}
+use Rattle.strand_isa.specs.declared.ops.UpperOp.TheVariants.{Lui}
+use Rattle.strand_isa.specs.declared.ops.ImmOp.TheVariants.{Addi, Addiw}
 use Rattle.strand_asm_lines.specs.declared.line.Section.{Section}
 use Rattle.strand_asm_lines.specs.declared.line.Section.TheVariants as sections
 use Rattle.strand_asm_lines.specs.declared.line.Operand.{Operand}
 use Rattle.strand_asm_lines.specs.declared.line.Operand.TheVariants as operands
 use Rattle.strand_asm_lines.specs.declared.line.Pattern.{Pattern}
+use Rattle.strand_asm_lines.specs.declared.mnemonic.Mnemonic.{Mnemonic}
+use Rattle.strand_asm_lines.specs.declared.mnemonic.Mnemonic.TheVariants as mnemonics
 use Rattle.strand_asm.specs.Operands.{register, number, below, signed, even}
-use Rattle.strand_asm.specs.Kinds.{kind_of}
-use Rattle.strand_asm.specs.Layout.{◌>>=◌, place_of}
-use Rattle.strand_asm.specs.declared.kind.Kind.{Kind}
-use Rattle.strand_asm.specs.declared.kind.Kind.TheVariants as kinds
+use Rattle.strand_asm.specs.Layout.{◌>>=◌, label_place}
 use Rattle.strand_asm.specs.declared.coded.Coded.{Coded}
 use Rattle.strand_asm.specs.declared.coded.Coded.TheVariants.{One, Two}
 use Rattle.strand_asm.specs.declared.place.Place.{Place}
@@ -56,7 +57,7 @@ unless_undefined line (Some x) = Ok x
 unless_undefined line None = Err (Undefined line)
 
 unfoldable pub word_named : Table → ℕ → List ℕ → Result ℕ AsmFault
-word_named labels line name = unless_undefined line (code_word (place_of labels name))
+word_named labels line name = unless_undefined line (code_word (label_place labels name))
 
 -- the offset of a target, in bytes
 unfoldable pub offset_to : Table → Site → Operand → Result ℤ AsmFault
@@ -67,11 +68,11 @@ offset_to labels site target = Ok (number target)
 
 -- the address of a word in its section
 abbrev pub address : Place → ℕ
-address place = elim place.section [ sections.Code ↦ 0x10000000 + 4 * place.index | sections.Volatile ↦ 0x20000000 + 8 * place.index | sections.Persist ↦ 0x40000000 + 8 * place.index ]
+address place = elim place.section [ sections.Code ↦ CODE_BASE + 4 * place.index | sections.Volatile ↦ VOLATILE_BASE + 8 * place.index | sections.Persist ↦ PERSISTENT_BASE + 8 * place.index ]
 
-abbrev pub address_of : Table → ℕ → Operand → Result ℕ AsmFault
-address_of labels line (operands.Label name) = unless_undefined line (option_map address (place_of labels name))
-address_of labels line operand = Ok 0
+abbrev pub label_address : Table → ℕ → Operand → Result ℕ AsmFault
+label_address labels line (operands.Label name) = unless_undefined line (option_map address (label_place labels name))
+label_address labels line operand = Ok 0
 
 -- The two instructions that make a number of 32 bits: the low part is its last twelve bits as a signed number, and the
 -- high part is the rest.
@@ -80,8 +81,8 @@ pair rd n = Two (Upper Lui rd ((n + 2048) / 4096 % 1048576)) (Imm Addiw rd rd (s
 
 unfoldable pub li_coded : ℕ → ℕ → ℤ → Result Coded AsmFault
 li_coded line rd z =
-    if is_within 2048 z then Ok (One (Imm Addi rd 0 z)) else
-    if is_within 2147483648 z then Ok (pair rd (field_of 2147483648 z)) else Err (Range line z)
+    if is_in_range 2048 z then Ok (One (Imm Addi rd 0 z)) else
+    if is_in_range 2147483648 z then Ok (pair rd (field_of 2147483648 z)) else Err (Range line z)
 
 -- an instruction whose number is in its field, or the fault
 abbrev pub one : ℕ → ℤ → Option Instr → Result Coded AsmFault
@@ -106,6 +107,14 @@ imm_coded line op a b c = one line (number c) (option_map (λ n. Imm op (registe
 abbrev pub shift_coded : ℕ → ShiftOp → Operand → Operand → Operand → Result Coded AsmFault
 shift_coded line op a b c = one line (number c) (option_map (λ n. Shift op (register a) (register b) n) (below (amount_bound op) (number c)))
 
+-- an operation on two registers has no number
+abbrev pub reg_coded : RegOp → Operand → Operand → Operand → Coded
+reg_coded op a b c = One (Reg op (register a) (register b) (register c))
+
+-- 'mv' adds 0 to a register
+abbrev pub move_coded : Operand → Operand → Coded
+move_coded a b = One (Imm Addi (register a) (register b) (pos 0))
+
 -- jumps and branches to a target
 abbrev pub jump : Table → Site → ℕ → Operand → Result Coded AsmFault
 jump labels site rd target = do
@@ -120,28 +129,36 @@ branch_coded labels site op a b c = do
 -- 'la' makes the address of a label
 abbrev pub la_coded : Table → ℕ → Operand → Operand → Result Coded AsmFault
 la_coded labels line a b = do
-  n ← address_of labels line b
+  n ← label_address labels line b
   Ok (pair (register a) n)
 
-unfoldable pub coded : Table → Site → Kind → Operand → Operand → Operand → Result Coded AsmFault
-coded labels site (kinds.Upper op) a b c = upper_coded site.line op a b
-coded labels site kinds.Jal a b c = jump labels site (register a) b
-coded labels site kinds.Jalr a b c = jalr_coded site.line a b
-coded labels site (kinds.Branch op) a b c = branch_coded labels site op a b c
-coded labels site (kinds.Load op) a b c = load_coded site.line op a b
-coded labels site (kinds.Store op) a b c = store_coded site.line op a b
-coded labels site (kinds.Imm op) a b c = imm_coded site.line op a b c
-coded labels site (kinds.Shift op) a b c = shift_coded site.line op a b c
-coded labels site (kinds.Reg op) a b c = Ok (One (Reg op (register a) (register b) (register c)))
-coded labels site (kinds.Alone i) a b c = Ok (One i)
-coded labels site kinds.Move a b c = Ok (One (Imm Addi (register a) (register b) (pos 0)))
-coded labels site kinds.Jump a b c = jump labels site 0 a
-coded labels site kinds.Li a b c = li_coded site.line (register a) (number b)
-coded labels site kinds.La a b c = la_coded labels site.line a b
+-- the instructions of a mnemonic, with the operands at its places
+unfoldable pub coded : Table → Site → Mnemonic → Operand → Operand → Operand → Result Coded AsmFault
+coded labels site (mnemonics.Upper op) a b c = upper_coded site.line op a b
+coded labels site mnemonics.Jal a b c = jump labels site (register a) b
+coded labels site mnemonics.Jalr a b c = jalr_coded site.line a b
+coded labels site (mnemonics.Branch op) a b c = branch_coded labels site op a b c
+coded labels site (mnemonics.Load op) a b c = load_coded site.line op a b
+coded labels site (mnemonics.Store op) a b c = store_coded site.line op a b
+coded labels site (mnemonics.Imm op) a b c = imm_coded site.line op a b c
+coded labels site (mnemonics.Shift op) a b c = shift_coded site.line op a b c
+coded labels site (mnemonics.Reg op) a b c = Ok (reg_coded op a b c)
+coded labels site mnemonics.Fence a b c = Ok (One (Fence 0 0 0x0ff))
+coded labels site mnemonics.Ecall a b c = Ok (One Ecall)
+coded labels site mnemonics.Ebreak a b c = Ok (One Ebreak)
+coded labels site mnemonics.PersistBarrier a b c = Ok (One PersistBarrier)
+coded labels site mnemonics.NewStrand a b c = Ok (One NewStrand)
+coded labels site mnemonics.JoinStrand a b c = Ok (One JoinStrand)
+coded labels site mnemonics.Nop a b c = Ok (One (Imm Addi 0 0 (pos 0)))
+coded labels site mnemonics.Ret a b c = Ok (One (Jalr 0 1 (pos 0)))
+coded labels site mnemonics.Mv a b c = Ok (move_coded a b)
+coded labels site mnemonics.Li a b c = li_coded site.line (register a) (number b)
+coded labels site mnemonics.La a b c = la_coded labels site.line a b
+coded labels site mnemonics.J a b c = jump labels site 0 a
 
 -- the instructions of a line
 abbrev pub pattern_coded : Table → Site → Pattern → Result Coded AsmFault
-pattern_coded labels site p = coded labels site (kind_of p.op) p.first p.second p.third
+pattern_coded labels site p = coded labels site p.op p.first p.second p.third
 
 abbrev pub AreValid : Coded → Type 0
 AreValid (One i) = IsValid i

@@ -2,7 +2,7 @@
 use Rattle.std.specs.Prelude.{◌≡◌, ℕ, ◌+◌, ◌≤◌, Bool, true, false, List, [], ◌∷◌, ◌++◌, Option, Some, None, Result, Ok, Err, if◌then◌else◌}
 use Rattle.std.specs.Map.{lookup}
 use Rattle.std.specs.Str.{bytes_eq}
-use Rattle.strand_isa.specs.Faults.{is_within}
+use Rattle.strand_isa.specs.Faults.{is_in_range}
 use Rattle.strand_base.specs.Text.{lines_of}
 use Rattle.strand_asm_lines.specs.Line.{line_of}
 use Rattle.strand_asm_lines.specs.declared.fault.LineKind.{LineKind}
@@ -13,10 +13,9 @@ use Rattle.strand_asm_lines.specs.declared.line.Body.{Body}
 use Rattle.strand_asm_lines.specs.declared.line.Body.TheVariants as bodies
 use Rattle.strand_asm_lines.specs.declared.line.Line.{Line}
 use Rattle.strand_asm_lines.specs.declared.line.Pattern.{Pattern}
+use Rattle.strand_asm_lines.specs.declared.mnemonic.Mnemonic.{Mnemonic}
+use Rattle.strand_asm_lines.specs.declared.mnemonic.Mnemonic.TheVariants.{Li, La}
 use Rattle.strand_asm.specs.Operands.{number}
-use Rattle.strand_asm.specs.Kinds.{kind_of}
-use Rattle.strand_asm.specs.declared.kind.Kind.{Kind}
-use Rattle.strand_asm.specs.declared.kind.Kind.TheVariants as kinds
 use Rattle.strand_asm.specs.declared.place.Place.{Place}
 use Rattle.strand_asm.specs.declared.layout.Layout.{Layout}
 use Rattle.strand_asm.specs.declared.fault.AsmFault.{AsmFault}
@@ -46,17 +45,17 @@ over_lines step n s (text ∷ texts) = do
   over_lines step (n + 1) next texts
 
 -- where a label stands
-unfoldable pub place_of : List (List ℕ × Place) → List ℕ → Option Place
-place_of labels name = lookup (bytes_eq name) labels
+unfoldable pub label_place : List (List ℕ × Place) → List ℕ → Option Place
+label_place labels name = lookup (bytes_eq name) labels
 
 -- how many words an instruction takes
-abbrev pub size_by : Kind → Pattern → ℕ
-size_by kinds.Li p = if is_within 2048 (number p.second) then 1 else 2
-size_by kinds.La p = 2
+abbrev pub size_by : Mnemonic → Pattern → ℕ
+size_by Li p = if is_in_range 2048 (number p.second) then 1 else 2
+size_by La p = 2
 size_by _ p = 1
 
 abbrev pub size_of : Pattern → ℕ
-size_of p = size_by (kind_of p.op) p
+size_of p = size_by p.op p
 
 -- how many words a section has, and so many more
 abbrev pub count_in : Section → Layout → ℕ
@@ -64,18 +63,18 @@ count_in Code l = l.code
 count_in Volatile l = l.volatile
 count_in Persist l = l.persistent
 
-abbrev pub with_words : Section → ℕ → Layout → Layout
-with_words Code n l = record l { code = l.code + n }
-with_words Volatile n l = record l { volatile = l.volatile + n }
-with_words Persist n l = record l { persistent = l.persistent + n }
+abbrev pub with_more_words : Section → ℕ → Layout → Layout
+with_more_words Code n l = record l { code = l.code + n }
+with_more_words Volatile n l = record l { volatile = l.volatile + n }
+with_more_words Persist n l = record l { persistent = l.persistent + n }
 
 abbrev pub grown : Layout → Body → Layout
 grown l bodies.Empty = l
 grown l (bodies.Section s) = record l { section = s }
 grown l (bodies.Entry target) = record l { cores = l.cores + 1 }
-grown l (bodies.Word z) = with_words l.section 1 l
-grown l (bodies.Space n) = with_words l.section n l
-grown l (bodies.Code p) = with_words Code (size_of p) l
+grown l (bodies.Word z) = with_more_words l.section 1 l
+grown l (bodies.Space n) = with_more_words l.section n l
+grown l (bodies.Code p) = with_more_words Code (size_of p) l
 
 -- Instructions stand in the code, and '.space' does not.
 abbrev pub is_code : Section → Bool
@@ -89,14 +88,14 @@ is_placed Code (bodies.Space n) = false
 is_placed s body = true
 
 -- A label stands at the next word of its section. Its name has no other label.
-abbrev pub unless_held : ℕ → Option Place → Layout → Result Layout AsmFault
-unless_held n (Some place) l = Err (Duplicate n place.line)
-unless_held n None l = Ok l
+abbrev pub unless_duplicate : ℕ → Option Place → Layout → Result Layout AsmFault
+unless_duplicate n (Some place) l = Err (Duplicate n place.line)
+unless_duplicate n None l = Ok l
 
 abbrev pub with_label : ℕ → Option (List ℕ) → Layout → Result Layout AsmFault
 with_label n None l = Ok l
 with_label n (Some name) l =
-    unless_held n (place_of l.labels name) (record l { labels = l.labels ++ (name, record { line = n; section = l.section; index = count_in l.section l }) ∷ [] })
+    unless_duplicate n (label_place l.labels name) (record l { labels = l.labels ++ (name, record { line = n; section = l.section; index = count_in l.section l }) ∷ [] })
 
 -- the layout behind a line
 unfoldable pub laid : ℕ → Layout → Line → Result Layout AsmFault
@@ -118,15 +117,15 @@ pub record IsAtMost (bound : ℕ) (l : Layout) : Type 0 where
   pub persistent_bound : l.persistent ≤ bound
 
 -- A fault that was returned is the one that was read; want of memory says nothing.
-abbrev pub Fails : {X : Type 0} → AsmFault → Result X AsmFault → Type 0
-Fails OutOfMemory read = Unit {0}
-Fails f read = read ≡ Err f
+abbrev pub FailsAssembly : {X : Type 0} → AsmFault → Result X AsmFault → Type 0
+FailsAssembly OutOfMemory read = Unit {0}
+FailsAssembly f read = read ≡ Err f
 
-abbrev pub Gives : {X : Type 0} → Result X AsmFault → Result X AsmFault → Type 0
-Gives (Ok x) read = read ≡ Ok x
-Gives (Err f) read = Fails f read
+abbrev pub GivesAssembly : {X : Type 0} → Result X AsmFault → Result X AsmFault → Type 0
+GivesAssembly (Ok x) read = read ≡ Ok x
+GivesAssembly (Err f) read = FailsAssembly f read
 
 -- the same of a call that leaves its value in a new state
-abbrev pub Steps : {U S : Type 0} → Result U AsmFault → S → Result S AsmFault → Type 0
-Steps (Ok u) new read = read ≡ Ok new
-Steps (Err f) new read = Fails f read
+abbrev pub GivesState : {U S : Type 0} → Result U AsmFault → S → Result S AsmFault → Type 0
+GivesState (Ok u) new read = read ≡ Ok new
+GivesState (Err f) new read = FailsAssembly f read

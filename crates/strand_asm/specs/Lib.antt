@@ -1,5 +1,4 @@
 pub mod Operands
-pub mod Kinds
 pub mod Layout
 pub mod Encode
 pub mod DraftSeen

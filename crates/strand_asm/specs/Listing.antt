@@ -8,7 +8,7 @@ use Rattle.strand_base.specs.Hexadecimal.{hex16}
 use Rattle.strand_isa.specs.Decode.{instr_of}
 use Rattle.strand_isa.specs.Print.{instr_text}
 use Rattle.strand_isa.specs.Word.{IsValid, word_of}
-use Rattle.strand_image.specs.Parts.{Parts}
+use Rattle.strand_image.specs.ImageSeen.{ImageSeen}
 
 abbrev pub entry_text : ℕ → List ℕ
 entry_text n = codes ".entry " ++ decimal n
@@ -45,14 +45,14 @@ code_lines code = map code_text code
 unfoldable pub data_lines : ℕ → List ℕ → List (List ℕ)
 data_lines count words = data_texts count words
 
-abbrev pub listing_lines : Parts → List (List ℕ)
+abbrev pub listing_lines : ImageSeen → List (List ℕ)
 listing_lines p = entry_lines p.entries ++ (codes ".code" ∷ code_lines p.code) ++ (codes ".volatile" ∷ data_lines 0 p.volatile) ++ (codes ".persist" ∷ data_lines 0 p.persistent)
 
 -- lines, each with its end
 unfoldable pub lines_text : List (List ℕ) → List ℕ
 lines_text ls = flat_map (λ l. l ++ 10 ∷ []) ls
 
-unfoldable pub listing : Parts → List ℕ
+unfoldable pub listing : ImageSeen → List ℕ
 listing p = lines_text (listing_lines p)
 
 -- a word that an instruction has is that instruction's word

@@ -1,7 +1,7 @@
 -- What an operand gives at its place. An operand of another form never stands there, and gives 0.
 use Rattle.std.specs.Prelude.{ℕ, ◌==◌, ◌&&◌, nat_lt, ℤ, pos, negsuc, ◌%◌, ◌+◌, ◌-◌, ◌*◌, Option, Some, None, if◌then◌else◌}
 use Rattle.strand_isa.specs.Word.{field_of}
-use Rattle.strand_isa.specs.Faults.{is_within}
+use Rattle.strand_isa.specs.Faults.{is_in_range}
 use Rattle.strand_asm_lines.specs.declared.line.Operand.{Operand}
 use Rattle.strand_asm_lines.specs.declared.line.Operand.TheVariants.{Absent, Reg, Num, Label, Mem}
 
@@ -28,11 +28,11 @@ below bound (negsuc n) = None
 
 -- a number from -half to half - 1
 abbrev pub signed : ℕ → ℤ → Option ℤ
-signed half z = if is_within half z then Some z else None
+signed half z = if is_in_range half z then Some z else None
 
 -- an even one
 abbrev pub even : ℕ → ℤ → Option ℤ
-even half z = if is_within half z && (field_of half z % 2 == 0) then Some z else None
+even half z = if is_in_range half z && (field_of half z % 2 == 0) then Some z else None
 
 -- a number from -half to 2 * half - 1, modulo 2 * half
 abbrev pub wrapped : ℕ → ℤ → Option ℕ

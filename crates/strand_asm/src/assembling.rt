@@ -1,5 +1,5 @@
 ghost use Rattle.std.specs.Prelude.{◌≡◌, ◌<◌, ◌^◌, length};
-ghost use Rattle.strand_asm.specs.Layout.{Gives};
+ghost use Rattle.strand_asm.specs.Layout.{GivesAssembly};
 ghost use Rattle.strand_asm.specs.Assemble.{assembled};
 
 use crate::AsmFault;
@@ -20,7 +20,7 @@ use strand_image::Image;
 #[tactic(auto, unfolding(crate::specs::Assemble::assembled))]
 pub fn assemble(alloc: Global, text: &[u8]) -> Result<Image, AsmFault>
     requires { length text.now < 2 ^ 32 }
-    ensures gives { Gives result (assembled text.now) }
+    ensures gives { GivesAssembly result (assembled text.now) }
 {
     let layout = layout_of(alloc, text)?;
     check_limits(&layout)?;

@@ -1,21 +1,36 @@
-ghost use Rattle.std.specs.Prelude.{◌≡◌, ◌<◌, ◌^◌, IfOk, IfSome};
-ghost use Rattle.strand_isa.specs.Codes.{amount_bound};
-ghost use Rattle.strand_isa.specs.Word.{IsValid};
-ghost use Rattle.strand_asm_lines.specs.Line.{HasRegister};
+ghost use Rattle.std.specs.Prelude.{◌≡◌, ◌<◌, ◌^◌, IfOk};
+ghost use Rattle.strand_asm_lines.specs.Line.{HasOperandRegister};
 ghost use Rattle.strand_asm.specs.Operands.{number};
-ghost use Rattle.strand_asm.specs.Encode.{AreValid, branch_coded, coded, imm_coded, jalr_coded, jump, la_coded, li_coded, load_coded, one, pair, pattern_coded, shift_coded, store_coded, upper_coded};
+ghost use Rattle.strand_asm.specs.Encode.{AreValid, branch_coded, coded, imm_coded, jalr_coded, jump, la_coded, li_coded, load_coded, move_coded, one, pair, pattern_coded, reg_coded, shift_coded, store_coded, upper_coded};
 ghost use Rattle.strand_asm.specs.declared.fault.AsmFault.{AsmFault};
-ghost use Rattle.strand_asm.specs.Kinds.{IsValidKind};
 
 use crate::AsmFault;
 use crate::coded::Coded;
-use crate::kind::{Kind, kind_of};
 use crate::labels::Labels;
 use crate::operands::{below, even, number, register, signed};
 use crate::place::Site;
 use crate::targets::{address_of, offset_to};
-use strand_asm_lines::{Operand, Pattern};
-use strand_isa::{BranchOp, ImmOp, Instr, LoadOp, ShiftOp, StoreOp, UpperOp};
+use strand_asm_lines::{Mnemonic, Operand, Pattern};
+use strand_isa::{BranchOp, ImmOp, Instr, LoadOp, RegOp, ShiftOp, StoreOp, UpperOp, amount_bound};
+
+const FENCE: Instr = Instr::Fence {
+    rd: 0,
+    rs1: 0,
+    bits: 0x0ff,
+};
+
+const NOP: Instr = Instr::Imm {
+    op: ImmOp::Addi,
+    rd: 0,
+    rs1: 0,
+    imm: 0,
+};
+
+const RET: Instr = Instr::Jalr {
+    rd: 0,
+    rs1: 1,
+    imm: 0,
+};
 
 fn one(line: u32, value: i128, instr: Option<Instr>) -> Result<Coded, AsmFault>
     ensures { result ≡ one line value instr }
@@ -84,17 +99,8 @@ fn jump(labels: &Labels, site: Site, rd: u8, target: &Operand) -> Result<Coded, 
     one(site.line, z, instr)
 }
 
-fn amount_bound(op: ShiftOp) -> u32
-    ensures { result ≡ amount_bound op }
-{
-    match op {
-        ShiftOp::Slli | ShiftOp::Srli | ShiftOp::Srai => 64,
-        ShiftOp::Slliw | ShiftOp::Srliw | ShiftOp::Sraiw => 32,
-    }
-}
-
 fn upper_coded(line: u32, op: UpperOp, a: &Operand, b: &Operand) -> Result<Coded, AsmFault>
-    requires { HasRegister a.now }
+    requires { HasOperandRegister a.now }
     ensures gives { result ≡ upper_coded line op a.now b.now }
     ensures valid { IfOk result AreValid }
 {
@@ -108,8 +114,8 @@ fn upper_coded(line: u32, op: UpperOp, a: &Operand, b: &Operand) -> Result<Coded
 }
 
 fn jalr_coded(line: u32, a: &Operand, b: &Operand) -> Result<Coded, AsmFault>
-    requires a { HasRegister a.now }
-    requires b { HasRegister b.now }
+    requires a { HasOperandRegister a.now }
+    requires b { HasOperandRegister b.now }
     ensures gives { result ≡ jalr_coded line a.now b.now }
     ensures valid { IfOk result AreValid }
 {
@@ -124,8 +130,8 @@ fn jalr_coded(line: u32, a: &Operand, b: &Operand) -> Result<Coded, AsmFault>
 }
 
 fn load_coded(line: u32, op: LoadOp, a: &Operand, b: &Operand) -> Result<Coded, AsmFault>
-    requires a { HasRegister a.now }
-    requires b { HasRegister b.now }
+    requires a { HasOperandRegister a.now }
+    requires b { HasOperandRegister b.now }
     ensures gives { result ≡ load_coded line op a.now b.now }
     ensures valid { IfOk result AreValid }
 {
@@ -140,8 +146,8 @@ fn load_coded(line: u32, op: LoadOp, a: &Operand, b: &Operand) -> Result<Coded, 
 }
 
 fn store_coded(line: u32, op: StoreOp, a: &Operand, b: &Operand) -> Result<Coded, AsmFault>
-    requires a { HasRegister a.now }
-    requires b { HasRegister b.now }
+    requires a { HasOperandRegister a.now }
+    requires b { HasOperandRegister b.now }
     ensures gives { result ≡ store_coded line op a.now b.now }
     ensures valid { IfOk result AreValid }
 {
@@ -156,8 +162,8 @@ fn store_coded(line: u32, op: StoreOp, a: &Operand, b: &Operand) -> Result<Coded
 }
 
 fn imm_coded(line: u32, op: ImmOp, a: &Operand, b: &Operand, c: &Operand) -> Result<Coded, AsmFault>
-    requires a { HasRegister a.now }
-    requires b { HasRegister b.now }
+    requires a { HasOperandRegister a.now }
+    requires b { HasOperandRegister b.now }
     ensures gives { result ≡ imm_coded line op a.now b.now c.now }
     ensures valid { IfOk result AreValid }
 {
@@ -178,15 +184,15 @@ fn shift_coded(
     b: &Operand,
     c: &Operand,
 ) -> Result<Coded, AsmFault>
-    requires a { HasRegister a.now }
-    requires b { HasRegister b.now }
+    requires a { HasOperandRegister a.now }
+    requires b { HasOperandRegister b.now }
     ensures gives { result ≡ shift_coded line op a.now b.now c.now }
     ensures valid { IfOk result AreValid }
 {
     let rd = register(a);
     let rs1 = register(b);
     let z = number(c);
-    let amount = below(amount_bound(op), z);
+    let amount = below(u32::from(amount_bound(op)), z);
     one(
         line,
         z,
@@ -207,8 +213,8 @@ fn branch_coded(
     b: &Operand,
     c: &Operand,
 ) -> Result<Coded, AsmFault>
-    requires a { HasRegister a.now }
-    requires b { HasRegister b.now }
+    requires a { HasOperandRegister a.now }
+    requires b { HasOperandRegister b.now }
     ensures gives { result ≡ branch_coded labels.now site op a.now b.now c.now }
     ensures valid { IfOk result AreValid }
 {
@@ -228,7 +234,7 @@ fn branch_coded(
 }
 
 fn la_coded(labels: &Labels, line: u32, a: &Operand, b: &Operand) -> Result<Coded, AsmFault>
-    requires { HasRegister a.now }
+    requires { HasOperandRegister a.now }
     ensures gives { result ≡ la_coded labels.now line a.now b.now }
     ensures valid { IfOk result AreValid }
 {
@@ -236,49 +242,73 @@ fn la_coded(labels: &Labels, line: u32, a: &Operand, b: &Operand) -> Result<Code
     Ok(pair(rd, address_of(labels, line, b)?))
 }
 
-/// The instructions of a kind, with the operands at its places.
+fn reg_coded(op: RegOp, a: &Operand, b: &Operand, c: &Operand) -> Coded
+    requires a { HasOperandRegister a.now }
+    requires b { HasOperandRegister b.now }
+    requires c { HasOperandRegister c.now }
+    ensures gives { result ≡ reg_coded op a.now b.now c.now }
+    ensures valid { AreValid result }
+{
+    let rd = register(a);
+    let rs1 = register(b);
+    let rs2 = register(c);
+    Coded::One(Instr::Reg { op, rd, rs1, rs2 })
+}
+
+fn move_coded(a: &Operand, b: &Operand) -> Coded
+    requires a { HasOperandRegister a.now }
+    requires b { HasOperandRegister b.now }
+    ensures gives { result ≡ move_coded a.now b.now }
+    ensures valid { AreValid result }
+{
+    let op = ImmOp::Addi;
+    Coded::One(Instr::Imm {
+        op,
+        rd: register(a),
+        rs1: register(b),
+        imm: 0,
+    })
+}
+
+/// The instructions of a mnemonic, with the operands at its places.
 #[tactic(auto, unfolding(crate::specs::Encode::coded))]
 fn coded(
     labels: &Labels,
     site: Site,
-    kind: Kind,
+    op: Mnemonic,
     a: &Operand,
     b: &Operand,
     c: &Operand,
 ) -> Result<Coded, AsmFault>
-    requires a { HasRegister a.now }
-    requires b { HasRegister b.now }
-    requires c { HasRegister c.now }
-    requires kind { IsValidKind kind }
-    ensures gives { result ≡ coded labels.now site kind a.now b.now c.now }
+    requires a { HasOperandRegister a.now }
+    requires b { HasOperandRegister b.now }
+    requires c { HasOperandRegister c.now }
+    ensures gives { result ≡ coded labels.now site op a.now b.now c.now }
     ensures valid { IfOk result AreValid }
 {
     let line = site.line;
-    match kind {
-        Kind::Upper(op) => upper_coded(line, op, a, b),
-        Kind::Jal => jump(labels, site, register(a), b),
-        Kind::Jalr => jalr_coded(line, a, b),
-        Kind::Branch(op) => branch_coded(labels, site, op, a, b, c),
-        Kind::Load(op) => load_coded(line, op, a, b),
-        Kind::Store(op) => store_coded(line, op, a, b),
-        Kind::Imm(op) => imm_coded(line, op, a, b, c),
-        Kind::Shift(op) => shift_coded(line, op, a, b, c),
-        Kind::Reg(op) => Ok(Coded::One(Instr::Reg {
-            op,
-            rd: register(a),
-            rs1: register(b),
-            rs2: register(c),
-        })),
-        Kind::Alone(instr) => Ok(Coded::One(instr)),
-        Kind::Move => Ok(Coded::One(Instr::Imm {
-            op: ImmOp::Addi,
-            rd: register(a),
-            rs1: register(b),
-            imm: 0,
-        })),
-        Kind::Jump => jump(labels, site, 0, a),
-        Kind::Li => li_coded(line, register(a), number(b)),
-        Kind::La => la_coded(labels, line, a, b),
+    match op {
+        Mnemonic::Upper(op) => upper_coded(line, op, a, b),
+        Mnemonic::Jal => jump(labels, site, register(a), b),
+        Mnemonic::Jalr => jalr_coded(line, a, b),
+        Mnemonic::Branch(op) => branch_coded(labels, site, op, a, b, c),
+        Mnemonic::Load(op) => load_coded(line, op, a, b),
+        Mnemonic::Store(op) => store_coded(line, op, a, b),
+        Mnemonic::Imm(op) => imm_coded(line, op, a, b, c),
+        Mnemonic::Shift(op) => shift_coded(line, op, a, b, c),
+        Mnemonic::Reg(op) => Ok(reg_coded(op, a, b, c)),
+        Mnemonic::Fence => Ok(Coded::One(FENCE)),
+        Mnemonic::Ecall => Ok(Coded::One(Instr::Ecall)),
+        Mnemonic::Ebreak => Ok(Coded::One(Instr::Ebreak)),
+        Mnemonic::PersistBarrier => Ok(Coded::One(Instr::PersistBarrier)),
+        Mnemonic::NewStrand => Ok(Coded::One(Instr::NewStrand)),
+        Mnemonic::JoinStrand => Ok(Coded::One(Instr::JoinStrand)),
+        Mnemonic::Nop => Ok(Coded::One(NOP)),
+        Mnemonic::Ret => Ok(Coded::One(RET)),
+        Mnemonic::Mv => Ok(move_coded(a, b)),
+        Mnemonic::Li => li_coded(line, register(a), number(b)),
+        Mnemonic::La => la_coded(labels, line, a, b),
+        Mnemonic::J => jump(labels, site, 0, a),
     }
 }
 
@@ -289,17 +319,16 @@ pub(crate) fn pattern_coded(
     site: Site,
     pattern: &Pattern,
 ) -> Result<Coded, AsmFault>
-    requires first { HasRegister pattern.now.first }
-    requires second { HasRegister pattern.now.second }
-    requires third { HasRegister pattern.now.third }
+    requires first { HasOperandRegister pattern.now.first }
+    requires second { HasOperandRegister pattern.now.second }
+    requires third { HasOperandRegister pattern.now.third }
     ensures gives { result ≡ pattern_coded labels.now site pattern.now }
     ensures valid { IfOk result AreValid }
 {
-    let kind = kind_of(pattern.op);
     coded(
         labels,
         site,
-        kind,
+        pattern.op,
         &pattern.first,
         &pattern.second,
         &pattern.third,

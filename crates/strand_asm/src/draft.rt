@@ -1,5 +1,5 @@
 ghost use Rattle.std.specs.Prelude.{◌≡◌, ◌++◌, ◌∷◌, [], length, replicate, IfOk, OnOk};
-ghost use Rattle.strand_image.specs.Image.{made};
+ghost use Rattle.strand_image.specs.Image.{checked_image};
 ghost use Rattle.strand_asm.specs.Draft.{added, blank};
 ghost use Rattle.strand_asm.specs.Assemble.{with_entry};
 
@@ -21,12 +21,12 @@ pub(crate) struct Draft {
 }
 
 impl Model for Draft {
-    ghost use Rattle.strand_image.specs.Parts.{parts};
+    ghost use Rattle.strand_image.specs.ImageSeen.{image_seen};
     ghost use Rattle.strand_asm.specs.DraftSeen.{DraftSeen};
 
     ghost Value = { DraftSeen };
 
-    ghost view = { λ s. record { section = s.section; parts = parts s.entries.items s.code.items s.volatile.items s.persistent.items } };
+    ghost view = { λ s. record { section = s.section; parts = image_seen s.entries.items s.code.items s.volatile.items s.persistent.items } };
 }
 
 fn put_zeros(words: &mut Vec<u64>, count: u32) -> Result<(), OutOfMemory>
@@ -110,7 +110,7 @@ impl Draft {
 
     /// The image, which begins at the first code word where the text names no entry.
     pub(crate) fn finish(self) -> Result<Image, OutOfMemory>
-        requires { made (with_entry self.parts) ≡ Ok (with_entry self.parts) }
+        requires { checked_image (with_entry self.parts) ≡ Ok (with_entry self.parts) }
         ensures { IfOk result (λ image. image ≡ with_entry self.parts) }
     {
         let mut entries = self.entries;

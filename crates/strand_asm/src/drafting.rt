@@ -1,8 +1,9 @@
 ghost use Rattle.std.specs.Prelude.{◌≡◌, ◌+◌, ◌<◌, ◌≤◌, ◌^◌, length, IfOk};
-ghost use Rattle.strand_asm_lines.specs.Line.{HasRegister, HasRegisters, HasRegistersOf};
-ghost use Rattle.strand_asm.specs.Layout.{Gives, Steps, on_line};
+ghost use Rattle.strand_base.specs.declared.limits.TheConstants.{MOST_CODE};
+ghost use Rattle.strand_asm_lines.specs.Line.{HasOperandRegister, HasRegisters, HasRegistersOf};
+ghost use Rattle.strand_asm.specs.Layout.{GivesAssembly, GivesState, on_line};
 ghost use Rattle.strand_asm.specs.Encode.{AreValid};
-ghost use Rattle.strand_asm.specs.Draft.{addition, draft_of, drafted, entry_added, entry_number, word_added, words_of};
+ghost use Rattle.strand_asm.specs.Draft.{addition, draft_of, drafted, entry_added, entry_number, word_added, coded_words};
 ghost use Rattle.strand_asm.specs.declared.fault.AsmFault.{AsmFault};
 
 use crate::AsmFault;
@@ -35,7 +36,7 @@ fn entry_number(layout: &Layout, line: u32, target: &Operand) -> Result<i128, As
 /// An entry, which is the number of a code word.
 #[tactic(auto, unfolding(crate::specs::Draft::entry_added))]
 fn entry_added(layout: &Layout, line: u32, target: &Operand) -> Result<Addition, AsmFault>
-    requires { layout.now.code ≤ 65536 }
+    requires { layout.now.code ≤ MOST_CODE }
     ensures { result ≡ entry_added layout.now line target.now }
 {
     let value = entry_number(layout, line, target)?;
@@ -65,7 +66,7 @@ fn word_added(line: u32, section: Section, value: i128) -> Result<Addition, AsmF
 
 fn words_of(coded: Coded) -> Addition
     requires { AreValid coded }
-    ensures { result ≡ words_of coded }
+    ensures { result ≡ coded_words coded }
 {
     match coded {
         Coded::One(i) => Addition::Code(encode(&i)),
@@ -81,7 +82,7 @@ fn addition(
     section: Section,
     body: &Body,
 ) -> Result<Addition, AsmFault>
-    requires code { layout.now.code ≤ 65536 }
+    requires code { layout.now.code ≤ MOST_CODE }
     requires registers { HasRegistersOf body.now }
     ensures { result ≡ addition layout.now site section body.now }
 {
@@ -101,9 +102,9 @@ fn addition(
 /// The image behind one more line.
 #[tactic(auto, unfolding(crate::specs::Draft::drafted))]
 fn draft_line(layout: &Layout, draft: &mut Draft, line: &Line, number: u32) -> Result<(), AsmFault>
-    requires code { layout.now.code ≤ 65536 }
+    requires code { layout.now.code ≤ MOST_CODE }
     requires registers { HasRegisters line.now }
-    ensures { Steps result draft.new (drafted layout.now number draft.old line.now) }
+    ensures { GivesState result draft.new (drafted layout.now number draft.old line.now) }
 {
     let site = Site {
         line: number,
@@ -123,8 +124,8 @@ fn draft_text(
     text: &[u8],
     number: u32,
 ) -> Result<(), AsmFault>
-    requires { layout.now.code ≤ 65536 }
-    ensures { Steps result draft.new (on_line (drafted layout.now) number draft.old text.now) }
+    requires { layout.now.code ≤ MOST_CODE }
+    ensures { GivesState result draft.new (on_line (drafted layout.now) number draft.old text.now) }
 {
     let line = read(alloc, text, number)?;
     draft_line(layout, draft, &line, number)
@@ -133,9 +134,9 @@ fn draft_text(
 /// What the lines of a text add, or the first fault of their numbers and names.
 #[tactic(auto, unfolding(crate::specs::Draft::draft_of))]
 pub(crate) fn draft_of(alloc: Global, layout: &Layout, text: &[u8]) -> Result<Draft, AsmFault>
-    requires code { layout.now.code ≤ 65536 }
+    requires code { layout.now.code ≤ MOST_CODE }
     requires text { length text.now < 2 ^ 32 }
-    ensures { Gives result (draft_of layout.now text.now) }
+    ensures { GivesAssembly result (draft_of layout.now text.now) }
 {
     let mut draft = Draft::blank(alloc);
     let mut from = 0;

@@ -1,5 +1,5 @@
 ghost use Rattle.std.specs.Prelude.{◌≡◌, ◌++◌, [], ◌∷◌, None, OnOk};
-ghost use Rattle.strand_asm.specs.Layout.{place_of};
+ghost use Rattle.strand_asm.specs.Layout.{label_place};
 
 use crate::place::Place;
 use indexmap::IndexMap;
@@ -34,16 +34,16 @@ impl Labels {
     }
 
     /// Where the label of a name stands.
-    #[tactic(auto, unfolding(crate::specs::Layout::place_of))]
-    pub(crate) fn place_of(&self, name: &str) -> Option<Place>
-        ensures { result ≡ place_of self.now name.now }
+    #[tactic(auto, unfolding(crate::specs::Layout::label_place))]
+    pub(crate) fn label_place(&self, name: &str) -> Option<Place>
+        ensures { result ≡ label_place self.now name.now }
     {
         self.places.get(name).copied()
     }
 
     /// Adds a name that has no place yet.
     pub(crate) fn add(&mut self, alloc: Global, name: &str, place: Place) -> Result<(), OutOfMemory>
-        requires { place_of self.old name.now ≡ None }
+        requires { label_place self.old name.now ≡ None }
         ensures { OnOk result (self.new ≡ self.old ++ (name.now, place) ∷ []) }
     {
         let Ok(name) = String::from_str(alloc, name) else {

@@ -1,17 +1,16 @@
 ghost use Rattle.std.specs.Prelude.{◌≡◌, ◌+◌, ◌-◌, ◌*◌, ◌<◌, ◌≤◌, ◌^◌, length, OnOk, Ok};
 ghost use Rattle.strand_base.specs.Text.{lines_of};
 ghost use Rattle.strand_asm_lines.specs.Line.{line_of};
-ghost use Rattle.strand_asm.specs.Layout.{Gives, IsAtMost, Steps, at_line, count_in, grown, is_code, is_placed, laid, layout_of, on_line, size_of, with_label, with_words};
+ghost use Rattle.strand_asm.specs.Layout.{GivesAssembly, IsAtMost, GivesState, at_line, count_in, grown, is_code, is_placed, laid, layout_of, on_line, size_of, with_label, with_more_words};
 
 use crate::AsmFault;
-use crate::kind::{Kind, kind_of};
 use crate::layout::{Layout, nothing};
 use crate::operands::{number, signed};
 use crate::place::Place;
 use crate::reading::read;
 use std::alloc::Global;
 use strand_asm_lines::{
-    Body, Line, LineError, LineFault, LineKind, Name, Pattern, Section, read_line,
+    Body, Line, LineError, LineFault, LineKind, Mnemonic, Name, Pattern, Section, read_line,
 };
 use strand_base::next_line;
 
@@ -19,15 +18,15 @@ use strand_base::next_line;
 fn size_of(pattern: &Pattern) -> u32
     ensures { result ≡ size_of pattern.now }
 {
-    match kind_of(pattern.op) {
-        Kind::Li => {
+    match pattern.op {
+        Mnemonic::Li => {
             if signed(2048, number(&pattern.second)).is_some() {
                 1
             } else {
                 2
             }
         }
-        Kind::La => 2,
+        Mnemonic::La => 2,
         _ => 1,
     }
 }
@@ -66,7 +65,7 @@ fn count_in(layout: &Layout) -> u64
 fn add_words(layout: &mut Layout, section: Section, count: u32, lines: u32)
     requires room { IsAtMost (4294967295 * lines) layout.old }
     requires lines { lines + 1 < 2 ^ 32 }
-    ensures gives { layout.new ≡ with_words section count layout.old }
+    ensures gives { layout.new ≡ with_more_words section count layout.old }
     ensures room { IsAtMost (4294967295 * (lines + 1)) layout.new }
 {
     match section {
@@ -103,10 +102,10 @@ fn add_label(
     lines: u32,
 ) -> Result<(), AsmFault>
     requires room { IsAtMost (4294967295 * lines) layout.old }
-    ensures gives { Steps result layout.new (with_label line (Some name.now) layout.old) }
+    ensures gives { GivesState result layout.new (with_label line (Some name.now) layout.old) }
     ensures room { OnOk result (IsAtMost (4294967295 * lines) layout.new) }
 {
-    if let Some(place) = layout.labels.place_of(name.as_str()) {
+    if let Some(place) = layout.labels.label_place(name.as_str()) {
         return Err(AsmFault::Duplicate {
             line,
             first: place.line,
@@ -128,7 +127,7 @@ fn add_label(
 fn lay(alloc: Global, layout: &mut Layout, line: &Line, lines: u32) -> Result<(), AsmFault>
     requires room { IsAtMost (4294967295 * lines) layout.old }
     requires lines { lines + 1 < 2 ^ 32 }
-    ensures gives { Steps result layout.new (laid (lines + 1) layout.old line.now) }
+    ensures gives { GivesState result layout.new (laid (lines + 1) layout.old line.now) }
     ensures room { OnOk result (IsAtMost (4294967295 * (lines + 1)) layout.new) }
 {
     if !is_placed(layout.section, &line.body) {
@@ -148,7 +147,7 @@ fn lay(alloc: Global, layout: &mut Layout, line: &Line, lines: u32) -> Result<()
 fn lay_text(alloc: Global, layout: &mut Layout, text: &[u8], lines: u32) -> Result<(), AsmFault>
     requires room { IsAtMost (4294967295 * lines) layout.old }
     requires lines { lines + 1 < 2 ^ 32 }
-    ensures gives { Steps result layout.new (on_line laid (lines + 1) layout.old text.now) }
+    ensures gives { GivesState result layout.new (on_line laid (lines + 1) layout.old text.now) }
     ensures room { OnOk result (IsAtMost (4294967295 * (lines + 1)) layout.new) }
 {
     let line = read(alloc, text, lines + 1)?;
@@ -159,7 +158,7 @@ fn lay_text(alloc: Global, layout: &mut Layout, text: &[u8], lines: u32) -> Resu
 #[tactic(auto, unfolding(crate::specs::Layout::layout_of))]
 pub(crate) fn layout_of(alloc: Global, text: &[u8]) -> Result<Layout, AsmFault>
     requires { length text.now < 2 ^ 32 }
-    ensures { Gives result (layout_of text.now) }
+    ensures { GivesAssembly result (layout_of text.now) }
 {
     let mut layout = nothing(alloc);
     let mut from = 0;

@@ -1,6 +1,7 @@
 ghost use Rattle.std.specs.Prelude.{◌≡◌, ◌≤◌, OnOk};
+ghost use Rattle.strand_base.specs.declared.limits.TheConstants.{MOST_CODE};
 ghost use Rattle.strand_asm.specs.Layout.{nothing};
-ghost use Rattle.strand_asm.specs.Assemble.{limited, within};
+ghost use Rattle.strand_asm.specs.Assemble.{limited, limit_check};
 
 use crate::AsmFault;
 use crate::labels::Labels;
@@ -36,15 +37,9 @@ pub(crate) fn nothing(alloc: Global) -> Layout
 }
 
 fn check(what: Quantity, number: u64) -> Result<(), AsmFault>
-    ensures { result ≡ within what number }
+    ensures { result ≡ limit_check what number }
 {
-    let (least, most) = match what {
-        Quantity::Cores => (1, 4),
-        Quantity::Code => (1, 65_536),
-        Quantity::Volatile => (0, 131_072),
-        Quantity::Persistent => (1, 131_072),
-    };
-    if least <= number && number <= most {
+    if what.allows(number) {
         Ok(())
     } else {
         Err(AsmFault::Limit { what, number })
@@ -55,7 +50,7 @@ fn check(what: Quantity, number: u64) -> Result<(), AsmFault>
 #[tactic(auto, unfolding(crate::specs::Assemble::limited))]
 pub(crate) fn check_limits(layout: &Layout) -> Result<(), AsmFault>
     ensures gives { result ≡ limited layout.now }
-    ensures code { OnOk result (layout.now.code ≤ 65536) }
+    ensures code { OnOk result (layout.now.code ≤ MOST_CODE) }
 {
     let cores = if layout.cores == 0 { 1 } else { layout.cores };
     check(Quantity::Cores, cores)?;

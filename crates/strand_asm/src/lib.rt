@@ -8,7 +8,6 @@ mod coding;
 mod draft;
 mod drafting;
 mod fault;
-mod kind;
 mod labels;
 mod laying;
 mod layout;

@@ -1,12 +1,12 @@
 ghost use Rattle.std.specs.Prelude.{◌≡◌, ◌*◌, ◌<◌, ◌≤◌, IfSome};
-ghost use Rattle.strand_asm_lines.specs.Line.{HasRegister};
+ghost use Rattle.strand_asm_lines.specs.Line.{HasOperandRegister};
 ghost use Rattle.strand_asm.specs.Operands.{register, number, below, signed, even, wrapped};
 
 use strand_asm_lines::Operand;
 
 /// The register of an operand, or the base of a place in memory.
 pub(crate) fn register(operand: &Operand) -> u8
-    requires { HasRegister operand.now }
+    requires { HasOperandRegister operand.now }
     ensures gives { result ≡ register operand.now }
     ensures small { result < 32 }
 {

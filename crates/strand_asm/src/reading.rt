@@ -1,6 +1,6 @@
 ghost use Rattle.std.specs.Prelude.{IfOk};
 ghost use Rattle.strand_asm_lines.specs.Line.{HasRegisters, line_of};
-ghost use Rattle.strand_asm.specs.Layout.{Gives, at_line};
+ghost use Rattle.strand_asm.specs.Layout.{GivesAssembly, at_line};
 
 use crate::AsmFault;
 use std::alloc::Global;
@@ -8,7 +8,7 @@ use strand_asm_lines::{Line, LineError, read_line};
 
 /// The parts of a line of the text.
 pub(crate) fn read(alloc: Global, text: &[u8], number: u32) -> Result<Line, AsmFault>
-    ensures gives { Gives result (at_line number (line_of text.now)) }
+    ensures gives { GivesAssembly result (at_line number (line_of text.now)) }
     ensures registers { IfOk result HasRegisters }
 {
     match read_line(alloc, text, number) {

@@ -1,6 +1,5 @@
 ghost use Rattle.std.specs.Prelude.{◌≡◌, ◌<◌, ◌^◌, IfOk};
-ghost use Rattle.strand_asm.specs.Layout.{Gives};
-ghost use Rattle.strand_asm.specs.Encode.{address, address_of, code_word, offset_to, word_named};
+ghost use Rattle.strand_asm.specs.Encode.{address, label_address, code_word, offset_to, word_named};
 ghost use Rattle.strand_asm.specs.declared.fault.AsmFault.{AsmFault};
 
 use crate::AsmFault;
@@ -8,6 +7,7 @@ use crate::labels::Labels;
 use crate::operands::number;
 use crate::place::{Place, Site};
 use strand_asm_lines::{Name, Operand, Section};
+use strand_base::{CODE_BASE, PERSISTENT_BASE, VOLATILE_BASE};
 
 fn code_word(place: Option<Place>) -> Option<u64>
     ensures { result ≡ code_word place }
@@ -24,7 +24,7 @@ fn code_word(place: Option<Place>) -> Option<u64>
 pub(crate) fn word_named(labels: &Labels, line: u32, name: &Name) -> Result<u64, AsmFault>
     ensures { result ≡ word_named labels.now line name.now }
 {
-    match code_word(labels.place_of(name.as_str())) {
+    match code_word(labels.label_place(name.as_str())) {
         Some(index) => Ok(index),
         None => Err(AsmFault::Undefined { line }),
     }
@@ -50,19 +50,19 @@ fn address(place: Place) -> u128
 {
     let index = u128::from(place.index);
     match place.section {
-        Section::Code => 0x1000_0000 + 4 * index,
-        Section::Volatile => 0x2000_0000 + 8 * index,
-        Section::Persist => 0x4000_0000 + 8 * index,
+        Section::Code => u128::from(CODE_BASE) + 4 * index,
+        Section::Volatile => u128::from(VOLATILE_BASE) + 8 * index,
+        Section::Persist => u128::from(PERSISTENT_BASE) + 8 * index,
     }
 }
 
 /// The address that a label marks.
 pub(crate) fn address_of(labels: &Labels, line: u32, operand: &Operand) -> Result<u128, AsmFault>
-    ensures gives { result ≡ address_of labels.now line operand.now }
+    ensures gives { result ≡ label_address labels.now line operand.now }
     ensures small { IfOk result (λ n. n < 2 ^ 100) }
 {
     match operand {
-        Operand::Label(name) => match labels.place_of(name.as_str()) {
+        Operand::Label(name) => match labels.label_place(name.as_str()) {
             Some(place) => Ok(address(place)),
             None => Err(AsmFault::Undefined { line }),
         },

@@ -1,4 +1,4 @@
 pub mod Pieces
-pub mod Names
-pub mod Steps
+pub mod NameText
+pub mod LineParts
 pub mod Registers

@@ -1,4 +1,4 @@
--- Pieces between separators, and the first place that passes.
+-- Serves clause gives of read_line: pieces between separators, and the first place that passes.
 use Rattle.std.proofs.Common.{◌≡◌, ℕ, zero, suc, ◌+◌, ◌<◌, ◌≤◌, Bool, true, false, cond, eqb, ltb, List, [], ◌∷◌, length, get_or, take, drop, Some, None, refl, sym, ap, ◌∙◌, arith, inl, inr}
 use Rattle.std.specs.Prelude.{position, count_by}
 use Rattle.std.specs.List.{position_or_len}
@@ -8,7 +8,7 @@ use Rattle.std.proofs.lemmas.Bool.{cases_lt, lt-ltb}
 use Rattle.std.proofs.lemmas.Option.{none-some}
 use Rattle.std.proofs.lemmas.List.Sums.{sum_by-cons}
 use Rattle.strand_base.specs.Text.{onto_first}
-use Rattle.strand_base.proofs.Texts.{FailsBelow, none_passes}
+use Rattle.strand_base.proofs.LinesAndWords.{FailsBelow, none_passes}
 use Rattle.strand_asm_lines.specs.Bytes.{pieces, from_first}
 use Rattle.strand_asm_lines.specs.Token.{opened, closed}
 

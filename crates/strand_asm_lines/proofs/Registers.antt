@@ -1,4 +1,4 @@
--- The registers of a line that is read are x0 to x31.
+-- Serves clause registers of read_line: the registers of a line that is read are x0 to x31.
 use Rattle.std.proofs.Common.{◌≡◌, ℕ, ◌<◌, ℤ, Bool, true, false, cond, List, [], ◌∷◌, drop, Option, Some, None, Result, Ok, Err, refl, subst, arith}
 use Rattle.std.specs.Prelude.{slice_index}
 use Rattle.std.specs.Option.{option_map, option_and_then, ok_or}
@@ -8,8 +8,8 @@ use lib.Chars.{codes}
 use Rattle.strand_base.specs.Text.{words_of}
 use Rattle.strand_asm_lines.specs.Bytes.{lone, operand_texts, operand_at}
 use Rattle.strand_asm_lines.specs.Token.{numbered, named, numbered_register, unless_named, register_of, number_of, name_of, short_number, bracketed, offset_of}
-use Rattle.strand_asm_lines.specs.Table.{row, due_count}
-use Rattle.strand_asm_lines.specs.Line.{◌>>=◌, in_word, unless_number, target_of, memory_of, operand_of, counted, head_of, space_of, instruction_of, directive_of, body_by, HasRegister, HasRegistersOf}
+use Rattle.strand_asm_lines.specs.Table.{form_of, due_count}
+use Rattle.strand_asm_lines.specs.Line.{◌>>=◌, in_word, unless_number, target_of, memory_of, operand_of, operands_counted, head_of, space_of, instruction_of, directive_of, body_by, HasOperandRegister, HasRegistersOf}
 use Rattle.strand_asm_lines.specs.declared.fault.LineKind.{LineKind}
 use Rattle.strand_asm_lines.specs.declared.fault.LineKind.TheVariants.{BadToken, BadNumber, BadRegister, UnknownName}
 use Rattle.strand_asm_lines.specs.declared.mnemonic.Mnemonic.{Mnemonic}
@@ -76,10 +76,10 @@ was_some (Some b) kind a e = cc
 
 -- each operand that may come has its register
 abbrev Places : Option Operand → Type 0
-Places x = (o : Operand) → x ≡ Some o → HasRegister o
+Places x = (o : Operand) → x ≡ Some o → HasOperandRegister o
 
-places_some : (o : Operand) → HasRegister o → Places (Some o)
-places_some o h p e = let same : o ≡ p = cc in subst (λ (q : Operand). HasRegister q) same h
+places_some : (o : Operand) → HasOperandRegister o → Places (Some o)
+places_some o h p e = let same : o ≡ p = cc in subst (λ (q : Operand). HasOperandRegister q) same h
 
 places_none : Places None
 places_none p e = absurd cc
@@ -104,7 +104,7 @@ places_targets : (x : Option ℤ) (w : List ℕ) → Places (unless_number x w)
 places_targets None w = places_names (name_of w)
 places_targets (Some n) w = places_some (operands.Num n) tt
 
-memory_has : (text : List ℕ) (o : Operand) → memory_of text ≡ Ok o → HasRegister o
+memory_has : (text : List ℕ) (o : Operand) → memory_of text ≡ Ok o → HasOperandRegister o
 unfolding memory_of
 memory_has text o e =
     let word = did (ok_or (lone (words_of text)) BadToken) _ o e in
@@ -114,10 +114,10 @@ memory_has text o e =
     let lt : base.0 < 32 = register_below parts.0.1 base.0 (was_some (register_of parts.0.1) BadRegister base.0 base.1) in
     let made : Ok (operands.Mem offset.0 base.0) ≡ Ok o = base.2 in
     let same : operands.Mem offset.0 base.0 ≡ o = cc in
-    subst (λ (q : Operand). HasRegister q) same lt
+    subst (λ (q : Operand). HasOperandRegister q) same lt
 
-operand_has : (d : Due) (text : List ℕ) (o : Operand) → operand_of d text ≡ Ok o → HasRegister o
-operand_has due.Nothing text o e = let same : operands.Absent ≡ o = cc in subst (λ (q : Operand). HasRegister q) same tt
+operand_has : (d : Due) (text : List ℕ) (o : Operand) → operand_of d text ≡ Ok o → HasOperandRegister o
+operand_has due.Nothing text o e = let same : operands.Absent ≡ o = cc in subst (λ (q : Operand). HasOperandRegister q) same tt
 operand_has due.Register text o e = places_registers (in_word register_of text) (below_then (lone (words_of text)) register_of register_below) o (was_some _ BadRegister o e)
 operand_has due.Number text o e = places_numbers (in_word number_of text) o (was_some _ BadNumber o e)
 operand_has due.Target text o e = places_then (lone (words_of text)) target_of (λ w. places_targets (number_of w) w) o (was_some _ BadNumber o e)
@@ -130,7 +130,7 @@ has_same a b e h = let same : a ≡ b = cc in subst (λ (q : Body). HasRegisters
 instruction_has : (op : Mnemonic) (f : Form) (rest : List ℕ) (body : Body) → instruction_of op f rest ≡ Ok body → HasRegistersOf body
 unfolding instruction_of
 instruction_has op f rest body e =
-    let enough = did (counted (due_count f) (operand_texts rest)) _ body e in
+    let enough = did (operands_counted (due_count f) (operand_texts rest)) _ body e in
     let first = did (operand_of f.first (operand_at 0 rest)) _ body enough.2 in
     let second = did (operand_of f.second (operand_at 1 rest)) _ body first.2 in
     let third = did (operand_of f.third (operand_at 2 rest)) _ body second.2 in
@@ -139,21 +139,21 @@ instruction_has op f rest body e =
 directive_has : (head : Head) (rest : List ℕ) (body : Body) → directive_of head rest ≡ Ok body → HasRegistersOf body
 unfolding directive_of
 directive_has (heads.Section section) rest body e =
-    let enough = did (counted 0 (operand_texts rest)) _ body e in
+    let enough = did (operands_counted 0 (operand_texts rest)) _ body e in
     has_same _ body enough.2 tt
 directive_has heads.Entry rest body e =
-    let enough = did (counted 1 (operand_texts rest)) _ body e in
+    let enough = did (operands_counted 1 (operand_texts rest)) _ body e in
     let target = did (operand_of due.Target (operand_at 0 rest)) _ body enough.2 in
     has_same _ body target.2 (operand_has due.Target _ target.0 target.1)
 directive_has heads.Word rest body e =
-    let enough = did (counted 1 (operand_texts rest)) _ body e in
+    let enough = did (operands_counted 1 (operand_texts rest)) _ body e in
     let number = did (ok_or (in_word number_of (operand_at 0 rest)) BadNumber) _ body enough.2 in
     has_same _ body number.2 tt
 directive_has heads.Space rest body e =
-    let enough = did (counted 1 (operand_texts rest)) _ body e in
+    let enough = did (operands_counted 1 (operand_texts rest)) _ body e in
     let number = did (ok_or (in_word space_of (operand_at 0 rest)) BadNumber) _ body enough.2 in
     has_same _ body number.2 tt
-directive_has (heads.Code op) rest body e = instruction_has op (row op).form rest body e
+directive_has (heads.Code op) rest body e = instruction_has op (form_of op) rest body e
 
 pub body_has : (word rest : List ℕ) (body : Body) → body_by word rest ≡ Ok body → HasRegistersOf body
 unfolding body_by

@@ -4,10 +4,11 @@ use Rattle.std.specs.List.{before_first, list_all}
 use Rattle.std.specs.Option.{option_map, option_and_then, ok_or}
 use Rattle.std.specs.Str.{bytes_eq}
 use lib.Chars.{codes}
+use Rattle.strand_base.specs.declared.limits.TheConstants.{MOST_DATA}
 use Rattle.strand_base.specs.Text.{is_blank, words_of, content_of}
 use Rattle.strand_asm_lines.specs.Bytes.{is_plain, pieces, from_first, after_blanks, lone, operand_texts, operand_at, some_empty}
 use Rattle.strand_asm_lines.specs.Token.{is_name, name_of, register_of, number_of, bracketed, offset_of}
-use Rattle.strand_asm_lines.specs.Table.{row, mnemonic_of, due_count}
+use Rattle.strand_asm_lines.specs.Table.{form_of, mnemonic_of, due_count}
 use Rattle.strand_asm_lines.specs.declared.fault.LineKind.{LineKind}
 use Rattle.strand_asm_lines.specs.declared.fault.LineKind.TheVariants.{BadToken, BadNumber, BadRegister, UnknownName, MissingOperand, ExtraOperand}
 use Rattle.strand_asm_lines.specs.declared.fault.LineError.{LineError}
@@ -60,8 +61,8 @@ operand_of due.Label text = ok_or (option_map (λ name. operands.Label name) (in
 operand_of due.Memory text = memory_of text
 
 -- too few operands or an empty one, then too many
-abbrev pub counted : ℕ → List (List ℕ) → Result (Unit {0}) LineKind
-counted due texts = if nat_lt (length texts) due || some_empty texts then Err MissingOperand else (if nat_lt due (length texts) then Err ExtraOperand else Ok tt)
+abbrev pub operands_counted : ℕ → List (List ℕ) → Result (Unit {0}) LineKind
+operands_counted due texts = if nat_lt (length texts) due || some_empty texts then Err MissingOperand else (if nat_lt due (length texts) then Err ExtraOperand else Ok tt)
 
 -- a directive or an instruction
 abbrev pub head_of : List ℕ → Option Head
@@ -72,7 +73,7 @@ head_of w = if bytes_eq w (codes ".code") then Some (heads.Section sections.Code
 -- how many words '.space' may make
 abbrev pub space_of_number : Option ℤ → Option ℕ
 space_of_number None = None
-space_of_number (Some (pos n)) = if nat_le n 131072 then Some n else None
+space_of_number (Some (pos n)) = if nat_le n MOST_DATA then Some n else None
 space_of_number (Some (negsuc n)) = None
 
 abbrev pub space_of : List ℕ → Option ℕ
@@ -81,7 +82,7 @@ space_of w = space_of_number (number_of w)
 -- the operands of an instruction, the first fault first
 unfoldable pub instruction_of : Mnemonic → Form → List ℕ → Result Body LineKind
 instruction_of op form rest = do
-  enough ← counted (due_count form) (operand_texts rest)
+  enough ← operands_counted (due_count form) (operand_texts rest)
   first ← operand_of form.first (operand_at 0 rest)
   second ← operand_of form.second (operand_at 1 rest)
   third ← operand_of form.third (operand_at 2 rest)
@@ -89,21 +90,21 @@ instruction_of op form rest = do
 
 unfoldable pub directive_of : Head → List ℕ → Result Body LineKind
 directive_of (heads.Section section) rest = do
-  enough ← counted 0 (operand_texts rest)
+  enough ← operands_counted 0 (operand_texts rest)
   Ok (bodies.Section section)
 directive_of heads.Entry rest = do
-  enough ← counted 1 (operand_texts rest)
+  enough ← operands_counted 1 (operand_texts rest)
   target ← operand_of due.Target (operand_at 0 rest)
   Ok (bodies.Entry target)
 directive_of heads.Word rest = do
-  enough ← counted 1 (operand_texts rest)
+  enough ← operands_counted 1 (operand_texts rest)
   number ← ok_or (in_word number_of (operand_at 0 rest)) BadNumber
   Ok (bodies.Word number)
 directive_of heads.Space rest = do
-  enough ← counted 1 (operand_texts rest)
+  enough ← operands_counted 1 (operand_texts rest)
   number ← ok_or (in_word space_of (operand_at 0 rest)) BadNumber
   Ok (bodies.Space number)
-directive_of (heads.Code op) rest = instruction_of op (row op).form rest
+directive_of (heads.Code op) rest = instruction_of op (form_of op) rest
 
 -- by the first word, and what follows it
 unfoldable pub body_by : List ℕ → List ℕ → Result Body LineKind
@@ -132,26 +133,26 @@ line_of text = do
   Ok (record { label = parts.0; body = body })
 
 -- the registers of a line are x0 to x31
-abbrev pub HasRegister : Operand → Type 0
-HasRegister operands.Absent = Unit {0}
-HasRegister (operands.Reg n) = n < 32
-HasRegister (operands.Num n) = Unit {0}
-HasRegister (operands.Label name) = Unit {0}
-HasRegister (operands.Mem offset base) = base < 32
+abbrev pub HasOperandRegister : Operand → Type 0
+HasOperandRegister operands.Absent = Unit {0}
+HasOperandRegister (operands.Reg n) = n < 32
+HasOperandRegister (operands.Num n) = Unit {0}
+HasOperandRegister (operands.Label name) = Unit {0}
+HasOperandRegister (operands.Mem offset base) = base < 32
 
 abbrev pub HasRegistersOf : Body → Type 0
 HasRegistersOf bodies.Empty = Unit {0}
 HasRegistersOf (bodies.Section section) = Unit {0}
-HasRegistersOf (bodies.Entry target) = HasRegister target
+HasRegistersOf (bodies.Entry target) = HasOperandRegister target
 HasRegistersOf (bodies.Word number) = Unit {0}
 HasRegistersOf (bodies.Space number) = Unit {0}
-HasRegistersOf (bodies.Code pattern) = HasRegister pattern.first × HasRegister pattern.second × HasRegister pattern.third
+HasRegistersOf (bodies.Code pattern) = HasOperandRegister pattern.first × HasOperandRegister pattern.second × HasOperandRegister pattern.third
 
 abbrev pub HasRegisters : Line → Type 0
 HasRegisters line = HasRegistersOf line.body
 
 -- What a function returned is what was read, unless memory ran out; a fault has the line's number.
-abbrev pub Gives : {X : Type 0} → ℕ → Result X LineError → Result X LineKind → Type 0
-Gives line (Ok x) read = read ≡ Ok x
-Gives line (Err (Fault fault)) read = (read ≡ Err fault.kind) × (fault.line ≡ line)
-Gives line (Err OutOfMemory) read = Unit {0}
+abbrev pub GivesLine : {X : Type 0} → ℕ → Result X LineError → Result X LineKind → Type 0
+GivesLine line (Ok x) read = read ≡ Ok x
+GivesLine line (Err (Fault fault)) read = (read ≡ Err fault.kind) × (fault.line ≡ line)
+GivesLine line (Err OutOfMemory) read = Unit {0}

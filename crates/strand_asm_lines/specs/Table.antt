@@ -1,92 +1,81 @@
--- The instructions: the word of each, and what is due at each place behind it.
+-- The first words of instructions, and what is due at each place behind them.
 use Rattle.std.specs.Prelude.{ℕ, ◌+◌, List, [], ◌∷◌, Option}
 use Rattle.std.specs.List.{find}
+use Rattle.std.specs.Option.{option_map, option_or}
 use Rattle.std.specs.Str.{bytes_eq}
 use lib.Chars.{codes}
+use Rattle.strand_isa.specs.Ops.{upper_named, branch_named, load_named, store_named, imm_named, shift_named, reg_named}
 use Rattle.strand_asm_lines.specs.declared.mnemonic.Mnemonic.{Mnemonic}
-use Rattle.strand_asm_lines.specs.declared.mnemonic.Mnemonic.TheVariants.{Lui, Auipc, Jal, Jalr, Beq, Bne, Blt, Bge, Bltu, Bgeu, Lb, Lh, Lw, Ld, Lbu, Lhu, Lwu, Sb, Sh, Sw, Sd, Addi, Slti, Sltiu, Xori, Ori, Andi, Addiw, Slli, Srli, Srai, Slliw, Srliw, Sraiw, Add, Sub, Sll, Slt, Sltu, Xor, Srl, Sra, Or, And, Addw, Subw, Sllw, Srlw, Sraw, Fence, Ecall, Ebreak, PersistBarrier, NewStrand, JoinStrand, Nop, Ret, Mv, Li, La, J}
+use Rattle.strand_asm_lines.specs.declared.mnemonic.Mnemonic.TheVariants.{Upper, Jal, Jalr, Branch, Load, Store, Imm, Shift, Reg, Fence, Ecall, Ebreak, PersistBarrier, NewStrand, JoinStrand, Nop, Ret, Mv, Li, La, J}
 use Rattle.strand_asm_lines.specs.declared.table.Due.{Due}
 use Rattle.strand_asm_lines.specs.declared.table.Due.TheVariants.{Nothing, Register, Number, Target, Label, Memory}
 use Rattle.strand_asm_lines.specs.declared.table.Form.{Form}
 
-pub record Row : Type 0 where
-  pub word : List ℕ
-  pub form : Form
+-- what is due at each of three places
+abbrev pub due_form : Due → Due → Due → Form
+due_form first second third = record { first = first; second = second; third = third }
 
-abbrev pub line : List ℕ → Due → Due → Due → Row
-line word first second third = record { word = word; form = record { first = first; second = second; third = third } }
+-- what is due behind the word of an instruction: nothing, where no line says it
+abbrev pub form_of : Mnemonic → Form
+form_of (Upper op) = due_form Register Number Nothing
+form_of Jal = due_form Register Target Nothing
+form_of Jalr = due_form Register Memory Nothing
+form_of (Branch op) = due_form Register Register Target
+form_of (Load op) = due_form Register Memory Nothing
+form_of (Store op) = due_form Register Memory Nothing
+form_of (Imm op) = due_form Register Register Number
+form_of (Shift op) = due_form Register Register Number
+form_of (Reg op) = due_form Register Register Register
+form_of Mv = due_form Register Register Nothing
+form_of Li = due_form Register Number Nothing
+form_of La = due_form Register Label Nothing
+form_of J = due_form Target Nothing Nothing
+form_of _ = due_form Nothing Nothing Nothing
 
-abbrev pub row : Mnemonic → Row
-row Lui = line (codes "lui") Register Number Nothing
-row Auipc = line (codes "auipc") Register Number Nothing
-row Jal = line (codes "jal") Register Target Nothing
-row Jalr = line (codes "jalr") Register Memory Nothing
-row Beq = line (codes "beq") Register Register Target
-row Bne = line (codes "bne") Register Register Target
-row Blt = line (codes "blt") Register Register Target
-row Bge = line (codes "bge") Register Register Target
-row Bltu = line (codes "bltu") Register Register Target
-row Bgeu = line (codes "bgeu") Register Register Target
-row Lb = line (codes "lb") Register Memory Nothing
-row Lh = line (codes "lh") Register Memory Nothing
-row Lw = line (codes "lw") Register Memory Nothing
-row Ld = line (codes "ld") Register Memory Nothing
-row Lbu = line (codes "lbu") Register Memory Nothing
-row Lhu = line (codes "lhu") Register Memory Nothing
-row Lwu = line (codes "lwu") Register Memory Nothing
-row Sb = line (codes "sb") Register Memory Nothing
-row Sh = line (codes "sh") Register Memory Nothing
-row Sw = line (codes "sw") Register Memory Nothing
-row Sd = line (codes "sd") Register Memory Nothing
-row Addi = line (codes "addi") Register Register Number
-row Slti = line (codes "slti") Register Register Number
-row Sltiu = line (codes "sltiu") Register Register Number
-row Xori = line (codes "xori") Register Register Number
-row Ori = line (codes "ori") Register Register Number
-row Andi = line (codes "andi") Register Register Number
-row Addiw = line (codes "addiw") Register Register Number
-row Slli = line (codes "slli") Register Register Number
-row Srli = line (codes "srli") Register Register Number
-row Srai = line (codes "srai") Register Register Number
-row Slliw = line (codes "slliw") Register Register Number
-row Srliw = line (codes "srliw") Register Register Number
-row Sraiw = line (codes "sraiw") Register Register Number
-row Add = line (codes "add") Register Register Register
-row Sub = line (codes "sub") Register Register Register
-row Sll = line (codes "sll") Register Register Register
-row Slt = line (codes "slt") Register Register Register
-row Sltu = line (codes "sltu") Register Register Register
-row Xor = line (codes "xor") Register Register Register
-row Srl = line (codes "srl") Register Register Register
-row Sra = line (codes "sra") Register Register Register
-row Or = line (codes "or") Register Register Register
-row And = line (codes "and") Register Register Register
-row Addw = line (codes "addw") Register Register Register
-row Subw = line (codes "subw") Register Register Register
-row Sllw = line (codes "sllw") Register Register Register
-row Srlw = line (codes "srlw") Register Register Register
-row Sraw = line (codes "sraw") Register Register Register
-row Fence = line (codes "fence") Nothing Nothing Nothing
-row Ecall = line (codes "ecall") Nothing Nothing Nothing
-row Ebreak = line (codes "ebreak") Nothing Nothing Nothing
-row PersistBarrier = line (codes "persistbarrier") Nothing Nothing Nothing
-row NewStrand = line (codes "newstrand") Nothing Nothing Nothing
-row JoinStrand = line (codes "joinstrand") Nothing Nothing Nothing
-row Nop = line (codes "nop") Nothing Nothing Nothing
-row Ret = line (codes "ret") Nothing Nothing Nothing
-row Mv = line (codes "mv") Register Register Nothing
-row Li = line (codes "li") Register Number Nothing
-row La = line (codes "la") Register Label Nothing
-row J = line (codes "j") Target Nothing Nothing
+-- the first of two that is there
+infixl 10 ◌or◌
+abbrev pub ◌or◌ : {A : Type 0} → Option A → Option A → Option A
+x or y = option_or x y
 
-unfoldable pub mnemonics : List Mnemonic
-mnemonics = Lui ∷ Auipc ∷ Jal ∷ Jalr ∷ Beq ∷ Bne ∷ Blt ∷ Bge ∷ Bltu ∷ Bgeu ∷ Lb ∷ Lh ∷ Lw ∷ Ld ∷ Lbu ∷ Lhu ∷ Lwu ∷ Sb ∷ Sh ∷ Sw ∷ Sd ∷ Addi ∷ Slti ∷ Sltiu ∷ Xori ∷ Ori ∷ Andi ∷ Addiw ∷ Slli ∷ Srli ∷ Srai ∷ Slliw ∷ Srliw ∷ Sraiw ∷ Add ∷ Sub ∷ Sll ∷ Slt ∷ Sltu ∷ Xor ∷ Srl ∷ Sra ∷ Or ∷ And ∷ Addw ∷ Subw ∷ Sllw ∷ Srlw ∷ Sraw ∷ Fence ∷ Ecall ∷ Ebreak ∷ PersistBarrier ∷ NewStrand ∷ JoinStrand ∷ Nop ∷ Ret ∷ Mv ∷ Li ∷ La ∷ J ∷ []
+-- the operation that a word names
+unfoldable pub operation_of : List ℕ → Option Mnemonic
+operation_of w =
+    option_map (λ op. Upper op) (upper_named w) or option_map (λ op. Branch op) (branch_named w)
+    or option_map (λ op. Load op) (load_named w) or option_map (λ op. Store op) (store_named w)
+    or option_map (λ op. Imm op) (imm_named w) or option_map (λ op. Shift op) (shift_named w)
+    or option_map (λ op. Reg op) (reg_named w)
 
--- the instruction that a word names
+-- the mnemonic of the first row that has a word
+abbrev pub named_among : List (List ℕ × Mnemonic) → List ℕ → Option Mnemonic
+named_among rows w = option_map (λ row. row.1) (find (λ row. bytes_eq row.0 w) rows)
+
+-- the words that name no operation, each with its mnemonic
+abbrev pub other_words : List (List ℕ × Mnemonic)
+other_words =
+    (codes "jal", Jal) ∷
+    (codes "jalr", Jalr) ∷
+    (codes "fence", Fence) ∷
+    (codes "ecall", Ecall) ∷
+    (codes "ebreak", Ebreak) ∷
+    (codes "persistbarrier", PersistBarrier) ∷
+    (codes "newstrand", NewStrand) ∷
+    (codes "joinstrand", JoinStrand) ∷
+    (codes "nop", Nop) ∷
+    (codes "ret", Ret) ∷
+    (codes "mv", Mv) ∷
+    (codes "li", Li) ∷
+    (codes "la", La) ∷
+    (codes "j", J) ∷ []
+
+-- the mnemonic of a word that names no operation
+abbrev pub other_of : List ℕ → Option Mnemonic
+other_of w = named_among other_words w
+
+-- the mnemonic of a word
 unfoldable pub mnemonic_of : List ℕ → Option Mnemonic
-mnemonic_of w = find (λ op. bytes_eq (row op).word w) mnemonics
+mnemonic_of w = operation_of w or other_of w
 
--- how many operands are due
+-- how many operands are due at a place
 abbrev pub place_count : Due → ℕ
 place_count Nothing = 0
 place_count Register = 1
@@ -95,5 +84,6 @@ place_count Target = 1
 place_count Label = 1
 place_count Memory = 1
 
+-- how many operands are due
 abbrev pub due_count : Form → ℕ
 due_count f = place_count f.first + place_count f.second + place_count f.third

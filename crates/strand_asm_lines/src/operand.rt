@@ -2,13 +2,14 @@ ghost use Rattle.std.specs.Prelude.{◌≡◌, IsTrue};
 ghost use Rattle.std.specs.Option.{option_map, ok_or};
 ghost use Rattle.strand_base.specs.Text.{words_of};
 ghost use Rattle.strand_asm_lines.specs.Token.{name_of, register_of, number_of};
-ghost use Rattle.strand_asm_lines.specs.Line.{in_word, memory_of, operand_of, space_of, Gives};
+ghost use Rattle.strand_asm_lines.specs.Line.{in_word, memory_of, operand_of, space_of, GivesLine};
 
 use crate::bytes::lone_word;
 use crate::table::Due;
 use crate::token::{bracketed, is_name, number, offset, register};
 use crate::{LineError, LineFault, LineKind, Name, Operand};
 use std::alloc::Global;
+use strand_base::MOST_DATA;
 
 fn register_in(text: &[u8]) -> Option<u8>
     ensures { result ≡ in_word register_of text.now }
@@ -26,7 +27,7 @@ fn space(text: &[u8]) -> Option<u32>
     ensures { result ≡ space_of text.now }
 {
     let count = number(text)?;
-    if 0 <= count && count <= 131_072 {
+    if 0 <= count && count <= i128::from(MOST_DATA) {
         Some(count as u32)
     } else {
         None
@@ -59,7 +60,7 @@ pub(crate) fn fault(line: u32, kind: LineKind) -> LineError
 }
 
 fn label(alloc: Global, line: u32, word: &[u8], kind: LineKind) -> Result<Operand, LineError>
-    ensures { Gives line result (ok_or (option_map (λ name. Operand.Label name) (name_of word.now)) kind) }
+    ensures { GivesLine line result (ok_or (option_map (λ name. Operand.Label name) (name_of word.now)) kind) }
 {
     if !is_name(word) {
         return Err(fault(line, kind));
@@ -71,7 +72,7 @@ fn label(alloc: Global, line: u32, word: &[u8], kind: LineKind) -> Result<Operan
 }
 
 fn target_in(alloc: Global, line: u32, text: &[u8]) -> Result<Operand, LineError>
-    ensures { Gives line result (operand_of Due.Target text.now) }
+    ensures { GivesLine line result (operand_of Due.Target text.now) }
 {
     let Some(word) = lone_word(text) else {
         return Err(fault(line, LineKind::BadNumber));
@@ -83,7 +84,7 @@ fn target_in(alloc: Global, line: u32, text: &[u8]) -> Result<Operand, LineError
 }
 
 fn label_in(alloc: Global, line: u32, text: &[u8]) -> Result<Operand, LineError>
-    ensures { Gives line result (operand_of Due.Label text.now) }
+    ensures { GivesLine line result (operand_of Due.Label text.now) }
 {
     match lone_word(text) {
         Some(word) => label(alloc, line, word, LineKind::BadToken),
@@ -93,7 +94,7 @@ fn label_in(alloc: Global, line: u32, text: &[u8]) -> Result<Operand, LineError>
 
 /// The operand that a text is, by what is due at its place.
 pub(crate) fn operand(alloc: Global, line: u32, due: Due, text: &[u8]) -> Result<Operand, LineError>
-    ensures { Gives line result (operand_of due text.now) }
+    ensures { GivesLine line result (operand_of due text.now) }
 {
     match due {
         Due::Nothing => Ok(Operand::Absent),

@@ -1,15 +1,15 @@
 ghost use Rattle.std.specs.Prelude.{◌≡◌, IfOk, IfSome, IsTrue};
 ghost use Rattle.std.specs.Option.{option_map};
-ghost use Rattle.strand_asm_lines.specs.Table.{row};
+ghost use Rattle.strand_asm_lines.specs.Table.{form_of};
 ghost use Rattle.strand_asm_lines.specs.Bytes.{pieces, operand_texts};
 ghost use Rattle.strand_asm_lines.specs.Token.{is_name};
-ghost use Rattle.strand_asm_lines.specs.Line.{counted, head_of, instruction_of, directive_of, body_by, body_of, labelled, parts_of, line_of, HasRegisters, Gives};
+ghost use Rattle.strand_asm_lines.specs.Line.{operands_counted, head_of, instruction_of, directive_of, body_by, body_of, labelled, parts_of, line_of, HasRegisters, GivesLine};
 
 use crate::bytes::{
     after_blanks, are_plain, comma_count, cut, has_empty, operand_at, split_at_blank,
 };
 use crate::operand::{fault, number_in, operand, space_in};
-use crate::table::{Due, due_count, mnemonic, row};
+use crate::table::{Due, due_count, form_of, mnemonic};
 use crate::token::is_name;
 use crate::{Body, Line, LineError, LineKind, Mnemonic, Name, Pattern, Section};
 use std::alloc::Global;
@@ -47,7 +47,7 @@ fn head_named(word: &[u8]) -> Option<Head>
 
 #[tactic(auto, using(crate::proofs::Pieces::length_pieces))]
 fn check_count(due: usize, rest: &[u8]) -> Result<(), LineKind>
-    ensures { result ≡ counted due (operand_texts rest.now) }
+    ensures { result ≡ operands_counted due (operand_texts rest.now) }
 {
     if next_word(rest).is_none() {
         return if due == 0 {
@@ -68,9 +68,9 @@ fn check_count(due: usize, rest: &[u8]) -> Result<(), LineKind>
 
 #[tactic(auto, unfolding(crate::specs::Line::instruction_of))]
 fn instruction(alloc: Global, line: u32, op: Mnemonic, rest: &[u8]) -> Result<Body, LineError>
-    ensures { Gives line result (instruction_of op (row op).form rest.now) }
+    ensures { GivesLine line result (instruction_of op (form_of op) rest.now) }
 {
-    let form = row(op).1;
+    let form = form_of(op);
     if let Err(kind) = check_count(due_count(form), rest) {
         return Err(fault(line, kind));
     }
@@ -87,7 +87,7 @@ fn instruction(alloc: Global, line: u32, op: Mnemonic, rest: &[u8]) -> Result<Bo
 
 #[tactic(auto, unfolding(crate::specs::Line::directive_of))]
 fn section(line: u32, section: Section, rest: &[u8]) -> Result<Body, LineError>
-    ensures { Gives line result (directive_of (Head.Section section) rest.now) }
+    ensures { GivesLine line result (directive_of (Head.Section section) rest.now) }
 {
     match check_count(0, rest) {
         Ok(()) => Ok(Body::Section(section)),
@@ -97,7 +97,7 @@ fn section(line: u32, section: Section, rest: &[u8]) -> Result<Body, LineError>
 
 #[tactic(auto, unfolding(crate::specs::Line::directive_of))]
 fn entry(alloc: Global, line: u32, rest: &[u8]) -> Result<Body, LineError>
-    ensures { Gives line result (directive_of Head.Entry rest.now) }
+    ensures { GivesLine line result (directive_of Head.Entry rest.now) }
 {
     if let Err(kind) = check_count(1, rest) {
         return Err(fault(line, kind));
@@ -108,7 +108,7 @@ fn entry(alloc: Global, line: u32, rest: &[u8]) -> Result<Body, LineError>
 
 #[tactic(auto, unfolding(crate::specs::Line::directive_of))]
 fn word(line: u32, rest: &[u8]) -> Result<Body, LineError>
-    ensures { Gives line result (directive_of Head.Word rest.now) }
+    ensures { GivesLine line result (directive_of Head.Word rest.now) }
 {
     if let Err(kind) = check_count(1, rest) {
         return Err(fault(line, kind));
@@ -121,7 +121,7 @@ fn word(line: u32, rest: &[u8]) -> Result<Body, LineError>
 
 #[tactic(auto, unfolding(crate::specs::Line::directive_of))]
 fn space(line: u32, rest: &[u8]) -> Result<Body, LineError>
-    ensures { Gives line result (directive_of Head.Space rest.now) }
+    ensures { GivesLine line result (directive_of Head.Space rest.now) }
 {
     if let Err(kind) = check_count(1, rest) {
         return Err(fault(line, kind));
@@ -134,7 +134,7 @@ fn space(line: u32, rest: &[u8]) -> Result<Body, LineError>
 
 #[tactic(auto, unfolding(crate::specs::Line::directive_of))]
 fn directive(alloc: Global, line: u32, head: Head, rest: &[u8]) -> Result<Body, LineError>
-    ensures { Gives line result (directive_of head rest.now) }
+    ensures { GivesLine line result (directive_of head rest.now) }
 {
     match head {
         Head::Section(part) => section(line, part, rest),
@@ -145,9 +145,9 @@ fn directive(alloc: Global, line: u32, head: Head, rest: &[u8]) -> Result<Body, 
     }
 }
 
-#[tactic(auto, using(crate::proofs::Steps::body_none, crate::proofs::Steps::body_some))]
+#[tactic(auto, using(crate::proofs::LineParts::body_none, crate::proofs::LineParts::body_some))]
 fn body(alloc: Global, line: u32, text: &[u8]) -> Result<Body, LineError>
-    ensures { Gives line result (body_of text.now) }
+    ensures { GivesLine line result (body_of text.now) }
 {
     let (word, rest) = split_at_blank(after_blanks(text));
     if word.is_empty() {
@@ -198,7 +198,7 @@ fn parts(text: &[u8]) -> Option<(Option<&[u8]>, &[u8])>
 /// and then that of its first operand that has one. `OutOfMemory` is want of memory.
 #[tactic(auto, unfolding(crate::specs::Line::line_of))]
 pub fn read_line(alloc: Global, text: &[u8], line: u32) -> Result<Line, LineError>
-    ensures gives { Gives line result (line_of text.now) }
+    ensures gives { GivesLine line result (line_of text.now) }
     ensures registers { IfOk result HasRegisters }
 {
     let Some((label, rest)) = parts(content(text)) else {

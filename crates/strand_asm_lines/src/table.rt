@@ -1,10 +1,11 @@
-ghost use Rattle.std.specs.Prelude.{◌≡◌};
-ghost use Rattle.std.specs.List.{find};
-ghost use Rattle.std.specs.Str.{bytes_eq};
-ghost use Rattle.strand_asm_lines.specs.Table.{row, mnemonic_of, place_count, due_count};
+ghost use Rattle.std.specs.Prelude.{◌≡◌, map};
+ghost use Rattle.strand_asm_lines.specs.Table.{form_of, mnemonic_of, named_among, operation_of, other_of, place_count, due_count};
 
 use crate::Mnemonic;
 use crate::Mnemonic::*;
+use strand_isa::{
+    branch_named, imm_named, load_named, reg_named, shift_named, store_named, upper_named,
+};
 
 /// What is due at an operand's place.
 #[derive(Clone, Copy)]
@@ -25,68 +26,22 @@ pub(crate) struct Form {
     pub(crate) third: Due,
 }
 
-const ALL: [Mnemonic; 61] = [
-    Lui,
-    Auipc,
-    Jal,
-    Jalr,
-    Beq,
-    Bne,
-    Blt,
-    Bge,
-    Bltu,
-    Bgeu,
-    Lb,
-    Lh,
-    Lw,
-    Ld,
-    Lbu,
-    Lhu,
-    Lwu,
-    Sb,
-    Sh,
-    Sw,
-    Sd,
-    Addi,
-    Slti,
-    Sltiu,
-    Xori,
-    Ori,
-    Andi,
-    Addiw,
-    Slli,
-    Srli,
-    Srai,
-    Slliw,
-    Srliw,
-    Sraiw,
-    Add,
-    Sub,
-    Sll,
-    Slt,
-    Sltu,
-    Xor,
-    Srl,
-    Sra,
-    Or,
-    And,
-    Addw,
-    Subw,
-    Sllw,
-    Srlw,
-    Sraw,
-    Fence,
-    Ecall,
-    Ebreak,
-    PersistBarrier,
-    NewStrand,
-    JoinStrand,
-    Nop,
-    Ret,
-    Mv,
-    Li,
-    La,
-    J,
+/// The words that name no operation, each with its mnemonic.
+const OTHER_WORDS: [(&str, Mnemonic); 14] = [
+    ("jal", Jal),
+    ("jalr", Jalr),
+    ("fence", Fence),
+    ("ecall", Ecall),
+    ("ebreak", Ebreak),
+    ("persistbarrier", PersistBarrier),
+    ("newstrand", NewStrand),
+    ("joinstrand", JoinStrand),
+    ("nop", Nop),
+    ("ret", Ret),
+    ("mv", Mv),
+    ("li", Li),
+    ("la", La),
+    ("j", J),
 ];
 
 fn due_form(first: Due, second: Due, third: Due) -> Form
@@ -99,121 +54,78 @@ fn due_form(first: Due, second: Due, third: Due) -> Form
     }
 }
 
-/// The word of an instruction, and what is due behind it.
-pub(crate) fn row(op: Mnemonic) -> (&'static str, Form)
-    ensures word { result.0.now ≡ (row op).word }
-    ensures form { result.1 ≡ (row op).form }
+/// What is due behind the word of an instruction.
+pub(crate) fn form_of(op: Mnemonic) -> Form
+    ensures { result ≡ form_of op }
 {
     match op {
-        Lui => ("lui", due_form(Due::Register, Due::Number, Due::Nothing)),
-        Auipc => ("auipc", due_form(Due::Register, Due::Number, Due::Nothing)),
-        Jal => ("jal", due_form(Due::Register, Due::Target, Due::Nothing)),
-        Jalr => ("jalr", due_form(Due::Register, Due::Memory, Due::Nothing)),
-        Beq => ("beq", due_form(Due::Register, Due::Register, Due::Target)),
-        Bne => ("bne", due_form(Due::Register, Due::Register, Due::Target)),
-        Blt => ("blt", due_form(Due::Register, Due::Register, Due::Target)),
-        Bge => ("bge", due_form(Due::Register, Due::Register, Due::Target)),
-        Bltu => ("bltu", due_form(Due::Register, Due::Register, Due::Target)),
-        Bgeu => ("bgeu", due_form(Due::Register, Due::Register, Due::Target)),
-        Lb => ("lb", due_form(Due::Register, Due::Memory, Due::Nothing)),
-        Lh => ("lh", due_form(Due::Register, Due::Memory, Due::Nothing)),
-        Lw => ("lw", due_form(Due::Register, Due::Memory, Due::Nothing)),
-        Ld => ("ld", due_form(Due::Register, Due::Memory, Due::Nothing)),
-        Lbu => ("lbu", due_form(Due::Register, Due::Memory, Due::Nothing)),
-        Lhu => ("lhu", due_form(Due::Register, Due::Memory, Due::Nothing)),
-        Lwu => ("lwu", due_form(Due::Register, Due::Memory, Due::Nothing)),
-        Sb => ("sb", due_form(Due::Register, Due::Memory, Due::Nothing)),
-        Sh => ("sh", due_form(Due::Register, Due::Memory, Due::Nothing)),
-        Sw => ("sw", due_form(Due::Register, Due::Memory, Due::Nothing)),
-        Sd => ("sd", due_form(Due::Register, Due::Memory, Due::Nothing)),
-        Addi => ("addi", due_form(Due::Register, Due::Register, Due::Number)),
-        Slti => ("slti", due_form(Due::Register, Due::Register, Due::Number)),
-        Sltiu => ("sltiu", due_form(Due::Register, Due::Register, Due::Number)),
-        Xori => ("xori", due_form(Due::Register, Due::Register, Due::Number)),
-        Ori => ("ori", due_form(Due::Register, Due::Register, Due::Number)),
-        Andi => ("andi", due_form(Due::Register, Due::Register, Due::Number)),
-        Addiw => ("addiw", due_form(Due::Register, Due::Register, Due::Number)),
-        Slli => ("slli", due_form(Due::Register, Due::Register, Due::Number)),
-        Srli => ("srli", due_form(Due::Register, Due::Register, Due::Number)),
-        Srai => ("srai", due_form(Due::Register, Due::Register, Due::Number)),
-        Slliw => ("slliw", due_form(Due::Register, Due::Register, Due::Number)),
-        Srliw => ("srliw", due_form(Due::Register, Due::Register, Due::Number)),
-        Sraiw => ("sraiw", due_form(Due::Register, Due::Register, Due::Number)),
-        Add => ("add", due_form(Due::Register, Due::Register, Due::Register)),
-        Sub => ("sub", due_form(Due::Register, Due::Register, Due::Register)),
-        Sll => ("sll", due_form(Due::Register, Due::Register, Due::Register)),
-        Slt => ("slt", due_form(Due::Register, Due::Register, Due::Register)),
-        Sltu => (
-            "sltu",
-            due_form(Due::Register, Due::Register, Due::Register),
-        ),
-        Xor => ("xor", due_form(Due::Register, Due::Register, Due::Register)),
-        Srl => ("srl", due_form(Due::Register, Due::Register, Due::Register)),
-        Sra => ("sra", due_form(Due::Register, Due::Register, Due::Register)),
-        Or => ("or", due_form(Due::Register, Due::Register, Due::Register)),
-        And => ("and", due_form(Due::Register, Due::Register, Due::Register)),
-        Addw => (
-            "addw",
-            due_form(Due::Register, Due::Register, Due::Register),
-        ),
-        Subw => (
-            "subw",
-            due_form(Due::Register, Due::Register, Due::Register),
-        ),
-        Sllw => (
-            "sllw",
-            due_form(Due::Register, Due::Register, Due::Register),
-        ),
-        Srlw => (
-            "srlw",
-            due_form(Due::Register, Due::Register, Due::Register),
-        ),
-        Sraw => (
-            "sraw",
-            due_form(Due::Register, Due::Register, Due::Register),
-        ),
-        Fence => ("fence", due_form(Due::Nothing, Due::Nothing, Due::Nothing)),
-        Ecall => ("ecall", due_form(Due::Nothing, Due::Nothing, Due::Nothing)),
-        Ebreak => ("ebreak", due_form(Due::Nothing, Due::Nothing, Due::Nothing)),
-        PersistBarrier => (
-            "persistbarrier",
-            due_form(Due::Nothing, Due::Nothing, Due::Nothing),
-        ),
-        NewStrand => (
-            "newstrand",
-            due_form(Due::Nothing, Due::Nothing, Due::Nothing),
-        ),
-        JoinStrand => (
-            "joinstrand",
-            due_form(Due::Nothing, Due::Nothing, Due::Nothing),
-        ),
-        Nop => ("nop", due_form(Due::Nothing, Due::Nothing, Due::Nothing)),
-        Ret => ("ret", due_form(Due::Nothing, Due::Nothing, Due::Nothing)),
-        Mv => ("mv", due_form(Due::Register, Due::Register, Due::Nothing)),
-        Li => ("li", due_form(Due::Register, Due::Number, Due::Nothing)),
-        La => ("la", due_form(Due::Register, Due::Label, Due::Nothing)),
-        J => ("j", due_form(Due::Target, Due::Nothing, Due::Nothing)),
+        Upper(_) => due_form(Due::Register, Due::Number, Due::Nothing),
+        Jal => due_form(Due::Register, Due::Target, Due::Nothing),
+        Jalr => due_form(Due::Register, Due::Memory, Due::Nothing),
+        Branch(_) => due_form(Due::Register, Due::Register, Due::Target),
+        Load(_) | Store(_) => due_form(Due::Register, Due::Memory, Due::Nothing),
+        Imm(_) | Shift(_) => due_form(Due::Register, Due::Register, Due::Number),
+        Reg(_) => due_form(Due::Register, Due::Register, Due::Register),
+        Fence | Ecall | Ebreak | PersistBarrier | NewStrand | JoinStrand | Nop | Ret => {
+            due_form(Due::Nothing, Due::Nothing, Due::Nothing)
+        }
+        Mv => due_form(Due::Register, Due::Register, Due::Nothing),
+        Li => due_form(Due::Register, Due::Number, Due::Nothing),
+        La => due_form(Due::Register, Due::Label, Due::Nothing),
+        J => due_form(Due::Target, Due::Nothing, Due::Nothing),
     }
 }
 
-fn is_named(op: Mnemonic, word: &[u8]) -> bool
-    ensures { result ≡ bytes_eq (row op).word word.now }
+/// The operation that a word names.
+#[tactic(auto, unfolding(crate::specs::Table::operation_of))]
+fn operation(word: &[u8]) -> Option<Mnemonic>
+    ensures { result ≡ operation_of word.now }
 {
-    row(op).0.as_bytes() == word
+    if let Some(op) = upper_named(word) {
+        return Some(Upper(op));
+    }
+    if let Some(op) = branch_named(word) {
+        return Some(Branch(op));
+    }
+    if let Some(op) = load_named(word) {
+        return Some(Load(op));
+    }
+    if let Some(op) = store_named(word) {
+        return Some(Store(op));
+    }
+    if let Some(op) = imm_named(word) {
+        return Some(Imm(op));
+    }
+    if let Some(op) = shift_named(word) {
+        return Some(Shift(op));
+    }
+    reg_named(word).map(Reg)
 }
 
-fn find_named(word: &[u8]) -> Option<Mnemonic>
-    ensures { result ≡ find (λ op. bytes_eq (row op).word word.now) ALL }
+fn named_among(mut rows: &[(&str, Mnemonic)], word: &[u8]) -> Option<Mnemonic>
+    ensures { result ≡ named_among (map (λ row. (row.0.now, row.1)) rows.entry.now) word.now }
 {
-    ALL.iter().copied().find(|op| is_named(*op, word))
+    while let [row, rest @ ..] = rows {
+        if row.0.as_bytes() == word {
+            return Some(row.1);
+        }
+        rows = rest;
+    }
+    None
 }
 
-/// The instruction that a word names.
-#[tactic(auto, unfolding(crate::specs::Table::mnemonic_of, crate::specs::Table::mnemonics))]
+fn other(word: &[u8]) -> Option<Mnemonic>
+    ensures { result ≡ other_of word.now }
+{
+    named_among(&OTHER_WORDS, word)
+}
+
+/// The mnemonic of a word.
+#[tactic(auto, unfolding(crate::specs::Table::mnemonic_of))]
 pub(crate) fn mnemonic(word: &[u8]) -> Option<Mnemonic>
     ensures { result ≡ mnemonic_of word.now }
 {
-    find_named(word)
+    operation(word).or_else(|| other(word))
 }
 
 fn place_count(due: Due) -> usize

@@ -73,15 +73,15 @@ fn lines_are_read(rt: HostRuntime) -> Result<(), Fail> {
         (".space 131072", "None Space(131072)"),
         (
             "\tsd  t6 ,\t-0(fp)",
-            "None Code(Pattern { op: Sd, first: Reg(31), second: Mem { offset: 0, base: 8 }, third: Absent })",
+            "None Code(Pattern { op: Store(Sd), first: Reg(31), second: Mem { offset: 0, base: 8 }, third: Absent })",
         ),
         (
             "x: ld s11,(a7)",
-            "Some(\"x\") Code(Pattern { op: Ld, first: Reg(27), second: Mem { offset: 0, base: 17 }, third: Absent })",
+            "Some(\"x\") Code(Pattern { op: Load(Ld), first: Reg(27), second: Mem { offset: 0, base: 17 }, third: Absent })",
         ),
         (
             "bgeu x0,t2,loop",
-            "None Code(Pattern { op: Bgeu, first: Reg(0), second: Reg(7), third: Label(\"loop\") })",
+            "None Code(Pattern { op: Branch(Bgeu), first: Reg(0), second: Reg(7), third: Label(\"loop\") })",
         ),
         (
             "j -8#",

@@ -1,4 +1,4 @@
--- Sixteen printed hexadecimal digits are read again.
+-- Serves clause again of print_hex16: sixteen printed hexadecimal digits are read again.
 use Rattle.std.proofs.Common.{◌≡◌, ℕ, zero, suc, ◌+◌, ◌*◌, ◌/◌, ◌%◌, ◌^◌, ◌<◌, true, false, not, ltb, List, [], ◌∷◌, length, None, Ok, refl, ap, ◌∙◌, arith}
 use Rattle.std.specs.Prelude.{position}
 use Rattle.std.specs.List.{position_or_len}

@@ -1,9 +1,9 @@
-pub mod Counted
-pub mod Counting
-pub mod Finding
-pub mod Texts
-pub mod Values
-pub mod Again
+pub mod Counts
+pub mod BelowBound
+pub mod ListBelow
+pub mod LinesAndWords
+pub mod DigitValues
+pub mod TextAgain
 pub mod HexAgain
-pub mod Fronts
-pub mod Taken
+pub mod AppendsFront
+pub mod TakesAll

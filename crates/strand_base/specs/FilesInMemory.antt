@@ -4,7 +4,7 @@ use Rattle.std.specs.Option.{option_map}
 use Rattle.std.specs.BTreeMap.{get_by_text}
 use Rattle.strand_base.specs.Counts.{next}
 use Rattle.strand_base.specs.FilesSeen.{Held, FilesSeen}
-use Rattle.strand_base.specs.Plan.{Plan, FailsNext}
+use Rattle.strand_base.specs.FaultPlanSeen.{FaultPlanSeen, FailsNext}
 use Rattle.strand_base.specs.declared.files.FetchFault.{FetchFault}
 use Rattle.strand_base.specs.declared.files.FetchFault.TheVariants.{Failed, TooLong, OutOfMemory}
 use Rattle.strand_base.specs.declared.held_files.HeldFiles.{HeldFiles}
@@ -24,8 +24,8 @@ abbrev pub held_by : MemoryFiles → Held
 held_by files = held_in files.files
 
 -- which fetches of `MemoryFiles` are to fail, by their numbers
-abbrev pub plan_of : MemoryFiles → Plan
-plan_of files = files.plan
+abbrev pub fault_plan_of : MemoryFiles → FaultPlanSeen
+fault_plan_of files = files.plan
 
 -- what the trait sees of `MemoryFiles`
 abbrev pub files_in_memory : MemoryFiles → FilesSeen
@@ -38,7 +38,7 @@ files_in_memory files = record {
 
 -- The next fetch of this name is to fail: its number was named, or no file has the name.
 abbrev pub FailsAt : MemoryFiles → List ℕ → Type 0
-FailsAt files name = FailsNext (plan_of files) ⊎ (held_by files name ≡ None)
+FailsAt files name = FailsNext (fault_plan_of files) ⊎ (held_by files name ≡ None)
 
 -- How each answer comes, and what it counts: Failed only at a fetch that is to fail, and such a fetch
 -- answers Failed, or OutOfMemory where it finds no memory for its name; the count rises at Failed alone.

@@ -2,7 +2,7 @@ pub mod Counting
 pub mod Counts
 pub mod FilesSeen
 pub mod SinkSeen
-pub mod Plan
+pub mod FaultPlanSeen
 pub mod SinkInMemory
 pub mod FilesInMemory
 pub mod ModuleSeen

@@ -1,7 +1,7 @@
 -- A sink in memory: the bytes that it keeps, and when it fails.
 use Rattle.std.specs.Prelude.{ℕ, ◌+◌, Bool, false, ◌&&◌, nat_le, List, ◌++◌, length, Some, None, if◌then◌else◌}
 use Rattle.std.specs.declared.option.Option.{Option}
-use Rattle.strand_base.specs.Plan.{Plan}
+use Rattle.strand_base.specs.FaultPlanSeen.{FaultPlanSeen}
 use Rattle.strand_base.specs.SinkSeen.{SinkSeen}
 
 -- the bytes taken while they fit into the room
@@ -28,7 +28,7 @@ pub record SinkInMemory : Type 0 where
   -- the most bytes that one call takes
   pub most : ℕ
   -- which calls are to fail
-  pub plan : Plan
+  pub plan : FaultPlanSeen
   -- how many faults there were
   pub faults : ℕ
 

@@ -1,5 +1,5 @@
 ghost use Rattle.std.specs.Prelude.{◌≡◌, ◌↔◌, [], IsTrue, OnOk, OnErr};
-ghost use Rattle.strand_base.specs.Plan.{FailsNext, called, naming};
+ghost use Rattle.strand_base.specs.FaultPlanSeen.{FailsNext, called, naming};
 
 use crate::OutOfMemory;
 use std::alloc::Global;
@@ -15,9 +15,9 @@ pub struct FaultPlan {
 }
 
 impl Model for FaultPlan {
-    ghost use Rattle.strand_base.specs.Plan.{Plan};
+    ghost use Rattle.strand_base.specs.FaultPlanSeen.{FaultPlanSeen};
 
-    ghost Value = { Plan };
+    ghost Value = { FaultPlanSeen };
 
     ghost view = { λ p. record { made = p.made; failing = p.failing.items } };
 }

@@ -11,6 +11,7 @@ mod hexadecimal;
 mod host_files;
 mod host_sink;
 mod kept_bytes;
+mod limits;
 mod lines;
 mod memory_files;
 mod memory_sink;
@@ -20,6 +21,7 @@ mod never_sink;
 mod numbers;
 mod out_of_memory;
 mod putting;
+mod regions;
 mod sink;
 #[cfg(test)]
 mod tests;
@@ -31,6 +33,10 @@ pub use files::{FetchFault, Files};
 pub use hexadecimal::{hex_digits, print_hex16, read_hex};
 pub use host_files::HostFiles;
 pub use host_sink::HostSink;
+pub use limits::{
+    CORE_ROOM, MOST_BUFFERS, MOST_CODE, MOST_CORES, MOST_DATA, MOST_FLIGHT, MOST_MEMORY,
+    MOST_QUEUE, MOST_RING, MOST_SETS, MOST_STEPS, MOST_WAYS,
+};
 pub use lines::{LineSpan, content, next_line, next_word};
 pub use memory_files::MemoryFiles;
 pub use memory_sink::MemorySink;
@@ -40,5 +46,6 @@ pub use never_sink::NeverSink;
 pub use numbers::Numbers;
 pub use out_of_memory::OutOfMemory;
 pub use putting::put_all;
+pub use regions::{CODE_BASE, PERSISTENT_BASE, VOLATILE_BASE};
 pub use sink::{Sink, SinkFailed};
 pub use writing::{put, put_line};

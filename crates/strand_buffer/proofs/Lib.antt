@@ -1,8 +1,8 @@
-pub mod Finding
-pub mod Handed
-pub mod KeptRings
-pub mod Linked
-pub mod Lowest
-pub mod Rings
-pub mod Trimmed
-pub mod WaitMet
+pub mod Eligible
+pub mod Sends
+pub mod RingInvariant
+pub mod WordLinks
+pub mod LowestEpoch
+pub mod OneRing
+pub mod EntryStages
+pub mod EntryWait

@@ -32,8 +32,8 @@ list_in bs b = slice_index_or bs.lists b []
 abbrev pub current : Buffers → ℕ
 current bs = bs.strand % length bs.lists
 
-abbrev pub next : Buffers → ℕ
-next bs = (bs.strand + 1) % length bs.lists
+abbrev pub next_buffer : Buffers → ℕ
+next_buffer bs = (bs.strand + 1) % length bs.lists
 
 -- the current strand's buffer has fewer places in use than a ring has
 abbrev pub has_room : Buffers → Bool
@@ -41,7 +41,7 @@ has_room bs = nat_lt (length (list_in bs (current bs))) bs.ring
 
 -- the next strand's buffer holds no persist that isn't durable
 abbrev pub can_begin : Buffers → Bool
-can_begin bs = length (list_in bs (next bs)) == 0
+can_begin bs = length (list_in bs (next_buffer bs)) == 0
 
 -- the buffers with another list for buffer b
 abbrev pub with_list : Buffers → ℕ → List Entry → Buffers

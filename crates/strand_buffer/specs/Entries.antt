@@ -1,6 +1,7 @@
 -- The list of a buffer, the oldest entry first, and which of its entries may be sent.
 use Rattle.std.specs.Prelude.{ℕ, Bool, true, false, ◌&&◌, not, ◌==◌, nat_lt, List, [], ◌∷◌, length, slice_get, slice_index, Some, None, if◌then◌else◌}
 use Rattle.std.specs.declared.option.Option.{Option}
+use Rattle.strand_base.specs.declared.limits.TheConstants.{CORE_ROOM}
 use Rattle.strand_base.specs.Counting.{any_below, list_below}
 use Rattle.strand_buffer.specs.declared.entry.Entry.{Entry}
 use Rattle.strand_buffer.specs.declared.entry.Stage.{Stage}
@@ -17,10 +18,10 @@ is_in_flight Buffered = false
 is_in_flight Sent = true
 is_in_flight Released = false
 
-abbrev pub is_held : Stage → Bool
-is_held Buffered = true
-is_held Sent = true
-is_held Released = false
+abbrev pub is_unreleased : Stage → Bool
+is_unreleased Buffered = true
+is_unreleased Sent = true
+is_unreleased Released = false
 
 -- the entry waits to be sent
 abbrev pub is_buffered : Entry → Bool
@@ -32,7 +33,7 @@ is_sent e = is_in_flight e.stage
 
 -- the entry isn't durable
 abbrev pub is_open : Entry → Bool
-is_open e = is_held e.stage
+is_open e = is_unreleased e.stage
 
 abbrev pub passes : (Entry → Bool) → Option Entry → Bool
 passes test None = false
@@ -84,12 +85,12 @@ abbrev pub word_waits : List Entry → ℕ → Bool
 word_waits entries i = any_below i (waits_with entries (word_at entries i))
 
 -- the entry's wait is met where of each core so many first persists are durable: none of its eight numbers is greater
-abbrev pub is_met : List ℕ → Entry → Bool
-is_met durable e = not (any_below 8 (λ c. nat_lt (slice_index durable c) (slice_index e.wait c)))
+abbrev pub is_met_by : List ℕ → Entry → Bool
+is_met_by durable e = not (any_below CORE_ROOM (λ c. nat_lt (slice_index durable c) (slice_index e.wait c)))
 
 -- entry i waits to be sent, all entries of lower epochs are durable, no earlier one that waits to be sent has its word, and its wait is met
 abbrev pub is_eligible : List ℕ → List Entry → ℕ → Bool
-is_eligible durable entries i = entry_is is_buffered entries i && not (epoch_waits entries i) && not (word_waits entries i) && entry_is (is_met durable) entries i
+is_eligible durable entries i = entry_is is_buffered entries i && not (epoch_waits entries i) && not (word_waits entries i) && entry_is (is_met_by durable) entries i
 
 -- the places of the eligible entries, ascending
 abbrev pub eligible_places : List ℕ → List Entry → List ℕ

@@ -1,6 +1,7 @@
 -- What the strand buffers keep of their fields.
 use Rattle.std.specs.Prelude.{◌≡◌, ℕ, ◌%◌, ◌<◌, ◌≤◌, List, [], length, map, slice_index_or, Some, None}
 use Rattle.std.specs.declared.option.Option.{Option}
+use Rattle.strand_base.specs.declared.limits.TheConstants.{MOST_BUFFERS, MOST_RING}
 use Rattle.strand_buffer.specs.declared.entry.Entry.{Entry}
 use Rattle.strand_buffer.specs.declared.buffers.StrandBuffers.TheInside.{Inside}
 use Rattle.strand_buffer.specs.Ring.{RingSeen, AreUpTo}
@@ -27,13 +28,13 @@ IsUpTo entries (Some epoch) = AreUpTo entries epoch
 abbrev pub entries_in : List RingSeen → ℕ → List Entry
 entries_in rings b = (slice_index_or rings b no_ring).entries
 
-pub record Kept (ring strand : ℕ) (rings : List RingSeen) (epoch : Option ℕ) : Type 0 where
+pub record AreKeptRings (ring strand : ℕ) (rings : List RingSeen) (epoch : Option ℕ) : Type 0 where
   pub some : 0 < length rings
-  pub few : length rings ≤ 8
-  pub small : ring ≤ 64
+  pub few : length rings ≤ MOST_BUFFERS
+  pub small : ring ≤ MOST_RING
   pub rooms : (i : ℕ) → i < length rings → (slice_index_or rings i no_ring).room ≡ ring
   -- the current strand's entries are up to the last epoch accepted
   pub latest : IsUpTo (entries_in rings (strand % length rings)) epoch
 
-abbrev pub IsKept : Inside → Type 0
-IsKept b = Kept b.ring b.strand b.rings.items b.epoch
+abbrev pub AreKeptBuffers : Inside → Type 0
+AreKeptBuffers b = AreKeptRings b.ring b.strand b.rings.items b.epoch

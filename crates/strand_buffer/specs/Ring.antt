@@ -1,5 +1,6 @@
 -- What the list of a buffer keeps.
 use Rattle.std.specs.Prelude.{◌≡◌, ℕ, ◌<◌, ◌≤◌, true, List, length}
+use Rattle.strand_base.specs.declared.limits.TheConstants.{MOST_RING}
 use Rattle.strand_buffer.specs.declared.entry.Entry.{Entry}
 use Rattle.strand_buffer.specs.Entries.{entry_is, is_open, epoch_at}
 use Rattle.strand_buffer.specs.Links.{AreLinked}
@@ -21,6 +22,6 @@ AreUpTo entries epoch = (i : ℕ) → i < length entries → epoch_at entries i 
 -- what a ring keeps of its fields
 pub record KeptRing (entries : List Entry) (links : List ℕ) (room : ℕ) : Type 0 where
   pub within : length entries ≤ room
-  pub small : room ≤ 64
+  pub small : room ≤ MOST_RING
   pub linked : AreLinked entries links
   pub ring : IsRing entries

@@ -1,11 +1,12 @@
 ghost use Rattle.std.specs.Prelude.{◌≡◌, ◌<◌, ◌≤◌, ◌^◌, ◌-◌, IfOk, IfSome, MatchOption, length, true};
+ghost use Rattle.strand_base.specs.declared.limits.TheConstants.{MOST_BUFFERS, MOST_RING};
 ghost use Rattle.strand_buffer.specs.Buffers.{IsEligible, IsSent, accepted, begun, can_begin, eligible_slot, empty_buffers, has_room, released, sent};
 
 use crate::Slot;
 use crate::ring::Ring;
 use std::alloc::Global;
 use std::marker::Model;
-use strand_base::OutOfMemory;
+use strand_base::{CORE_ROOM, OutOfMemory};
 
 /// The strand buffers of one core. Strand number k uses the buffer k modulo their number. Contracts see
 /// the places of a ring, the current strand number, per buffer its persists from the oldest that isn't
@@ -25,11 +26,11 @@ impl Model for StrandBuffers {
 
     ghost Value = { Buffers };
 
-    ghost use Rattle.strand_buffer.specs.KeptBuffers.{seen, IsKept};
+    ghost use Rattle.strand_buffer.specs.KeptBuffers.{seen, AreKeptBuffers};
 
     ghost view = { seen };
 
-    ghost invariant = { IsKept };
+    ghost invariant = { AreKeptBuffers };
 }
 
 impl StrandBuffers {
@@ -37,9 +38,9 @@ impl StrandBuffers {
     /// they will need; no other call takes any.
     pub fn new(alloc: Global, buffers: u32, ring: u32) -> Result<StrandBuffers, OutOfMemory>
         requires some { 1 ≤ buffers }
-        requires few { buffers ≤ 8 }
+        requires few { buffers ≤ MOST_BUFFERS }
         requires places { 1 ≤ ring }
-        requires small { ring ≤ 64 }
+        requires small { ring ≤ MOST_RING }
         ensures { IfOk result (λ b. b ≡ empty_buffers buffers ring) }
     {
         let mut rings: Vec<Ring> = Vec::with_capacity(alloc, buffers as usize)?;
@@ -68,7 +69,7 @@ impl StrandBuffers {
     /// is greater than all accepted before, and its epoch isn't lower than any of its strand. Its wait
     /// says for each core how many of that core's first persists must be durable before this one may be
     /// sent.
-    pub fn accept(&mut self, number: u32, word: u64, value: u64, epoch: u32, wait: [u32; 8])
+    pub fn accept(&mut self, number: u32, word: u64, value: u64, epoch: u32, wait: [u32; CORE_ROOM])
         requires room { has_room self.old ≡ true }
         requires number { MatchOption self.old.number (Unit {0}) (λ n. n < number) }
         requires epoch { MatchOption self.old.epoch (Unit {0}) (λ e. e ≤ epoch) }
@@ -104,7 +105,7 @@ impl StrandBuffers {
     /// most j. `durable` says for each core how many of its first persists are all durable; a persist is
     /// eligible only where its wait asks for no more of any core. It looks at each entry of the buffer
     /// once, and compares the eight numbers of its wait.
-    pub fn eligible(&self, b: u32, j: u32, durable: &[u32; 8]) -> Option<Slot>
+    pub fn eligible(&self, b: u32, j: u32, durable: &[u32; CORE_ROOM]) -> Option<Slot>
         requires { b < length self.now.lists }
         ensures slot { result ≡ eligible_slot self.now b j durable.now }
         ensures eligible { IfSome result (λ s. IsEligible self.now b s.number durable.now) }
@@ -115,7 +116,7 @@ impl StrandBuffers {
 
     /// The persist of this number in buffer b, which is eligible with the counts `durable` (as in
     /// `eligible`), is sent.
-    pub fn sent(&mut self, b: u32, number: u32, durable: &[u32; 8])
+    pub fn sent(&mut self, b: u32, number: u32, durable: &[u32; CORE_ROOM])
         requires { IsEligible self.old b number durable.now }
         ensures buffers { self.new ≡ sent self.old b number }
         ensures sent { IsSent self.new b number }

@@ -1,3 +1,5 @@
+use strand_base::CORE_ROOM;
+
 /// How far a persist in a buffer has come.
 #[derive(Clone, Copy, Debug, PartialEq, Eq)]
 pub enum Stage {
@@ -22,7 +24,7 @@ pub struct Entry {
     pub epoch: u32,
     /// Its wait: for each core how many of that core's first persists must be durable before this one
     /// may be sent. A number of 0 asks nothing of its core.
-    pub wait: [u32; 8],
+    pub wait: [u32; CORE_ROOM],
     /// How far it has come.
     pub stage: Stage,
 }

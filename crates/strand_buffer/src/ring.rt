@@ -1,5 +1,6 @@
 // The entries of one buffer, from the oldest that isn't durable on.
 ghost use Rattle.std.specs.Prelude.{◌≡◌, ◌<◌, ◌≤◌, ◌++◌, [], ◌∷◌, IfOk, length, map, vec_capacity};
+ghost use Rattle.strand_base.specs.declared.limits.TheConstants.{MOST_RING};
 ghost use Rattle.strand_buffer.specs.declared.entry.Stage.TheVariants.{Buffered, Sent, Released};
 ghost use Rattle.strand_buffer.specs.Entries.{trimmed};
 ghost use Rattle.strand_buffer.specs.Buffers.{found_slot, with_stage};
@@ -11,7 +12,7 @@ use crate::stages::{drop_front, released_in_front, set_stage};
 use crate::{Entry, Slot, Stage};
 use std::alloc::Global;
 use std::marker::Model;
-use strand_base::OutOfMemory;
+use strand_base::{CORE_ROOM, OutOfMemory};
 
 // Beside each entry stands how far back the latest earlier one of its word is, so that a pass over
 // the entries needn't look for it.
@@ -39,7 +40,7 @@ impl Model for Ring {
 impl Ring {
     // An empty ring with room for so many entries.
     pub fn new(alloc: Global, room: u32) -> Result<Ring, OutOfMemory>
-        requires { room ≤ 64 }
+        requires { room ≤ MOST_RING }
         ensures { IfOk result (λ r. (r.entries ≡ []) × (r.room ≡ room)) }
     {
         Ok(Ring {
@@ -57,7 +58,7 @@ impl Ring {
     }
 
     // A persist that waits comes to the end.
-    pub fn accept(&mut self, number: u32, word: u64, value: u64, epoch: u32, wait: [u32; 8])
+    pub fn accept(&mut self, number: u32, word: u64, value: u64, epoch: u32, wait: [u32; CORE_ROOM])
         requires room { length self.old.entries < self.old.room }
         requires epoch { AreUpTo self.old.entries epoch }
         ensures { self.new ≡ record self.old {
@@ -79,7 +80,7 @@ impl Ring {
     }
 
     // The entry eligible with these counts of durable persists that has so many of them before it.
-    pub fn eligible(&self, j: u32, durable: &[u32; 8]) -> Option<Slot>
+    pub fn eligible(&self, j: u32, durable: &[u32; CORE_ROOM]) -> Option<Slot>
         ensures { result ≡ found_slot self.now.entries j durable.now }
     {
         let place = eligible_at(&self.entries, &self.links, j, durable)?;

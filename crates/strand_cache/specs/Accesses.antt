@@ -1,12 +1,13 @@
 -- A list of accesses of cores to lines, the oldest first. An access is named by its moment, its place in the list.
 use Rattle.std.specs.Prelude.{ℕ, ◌/◌, ◌%◌, Bool, false, ◌&&◌, ◌==◌, not, List, Option, Some, None, slice_get}
+use Rattle.strand_cache.specs.declared.lines.TheConstants.{LINE_BYTES}
 
 -- the line of a word, which has eight words of eight bytes, and the word's place there
-abbrev pub line_of : ℕ → ℕ
-line_of word = word / 64
+abbrev pub cache_line_of : ℕ → ℕ
+cache_line_of word = word / LINE_BYTES
 
-abbrev pub place_of : ℕ → ℕ
-place_of word = word % 64 / 8
+abbrev pub line_place : ℕ → ℕ
+line_place word = word % LINE_BYTES / 8
 
 -- a load or a store by a core of a word of a line
 pub record LineAccess : Type 0 where

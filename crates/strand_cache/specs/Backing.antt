@@ -1,11 +1,13 @@
 -- The lines of the backing memory: a line has eight words, and the last line of a region may have fewer.
 use Rattle.std.specs.Prelude.{◌≤◌, length, ℕ, zero, suc, ◌+◌, ◌*◌, List, slice_index, if◌then◌else◌}
+use Rattle.strand_cache.specs.declared.lines.TheConstants.{LINE_BYTES, LINE_WORDS}
+use Rattle.strand_base.specs.declared.limits.TheConstants.{MOST_MEMORY}
 use Rattle.strand_exec.specs.Memory.{Memory, extents_of, with_word, word_in}
 use Rattle.strand_exec.specs.Plan.{is_data}
 
 -- the word at a place of a line
 abbrev pub word_at : ℕ → ℕ → ℕ
-word_at line place = 64 * line + 8 * place
+word_at line place = LINE_BYTES * line + 8 * place
 
 -- a word of the memory, 0 outside its regions
 unfoldable pub word_or_zero : Memory → ℕ → ℕ
@@ -19,9 +21,9 @@ put_below memory line words (suc k) =
 
 -- the memory with the words of a line put back
 unfoldable pub with_line : Memory → ℕ → List ℕ → Memory
-with_line memory line words = put_below memory line words 8
+with_line memory line words = put_below memory line words LINE_WORDS
 
 -- each region has so few words that the volatile ones lie below the persistent ones
 pub record IsApart (memory : Memory) : Type 0 where
-  pub apart : length memory.volatile ≤ 1048576
-  pub small : length memory.persistent ≤ 1048576
+  pub apart : length memory.volatile ≤ MOST_MEMORY
+  pub small : length memory.persistent ≤ MOST_MEMORY

@@ -4,7 +4,7 @@ use Rattle.strand_exec.specs.Arith.{merged}
 use Rattle.strand_exec.specs.Memory.{Memory, with_word, word_in}
 use Rattle.strand_cache.specs.declared.change.Change.{Change}
 use Rattle.strand_cache.specs.declared.change.Change.TheVariants.{Read, Merge}
-use Rattle.strand_cache.specs.Accesses.{LineAccess, line_of}
+use Rattle.strand_cache.specs.Accesses.{LineAccess, cache_line_of}
 
 abbrev pub stores : Change → Bool
 stores Read = false
@@ -22,4 +22,4 @@ memory_after (Merge mask bits) word memory = with_word memory word (merged (word
 
 -- an access of a core to a word, as one to its line
 abbrev pub access_of : ℕ → ℕ → Change → LineAccess
-access_of core word change = record { core = core; line = line_of word; stores = stores change }
+access_of core word change = record { core = core; line = cache_line_of word; stores = stores change }

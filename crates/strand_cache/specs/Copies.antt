@@ -30,5 +30,5 @@ owned line [] = None
 owned line (row ∷ rows) = option_or (find (is_changed line) row) (owned line rows)
 
 -- the lines of a row
-abbrev pub lines_of : List HeldLine → List ℕ
-lines_of row = map (λ held. held.line) row
+abbrev pub row_lines : List HeldLine → List ℕ
+row_lines row = map (λ held. held.line) row

@@ -20,12 +20,12 @@ abbrev pub is_last : ℕ → ℕ → List LineAccess → ℕ → ℕ → Bool
 is_last core line xs n i = access_is (touches core line) xs i && not (any_below n (λ k. nat_lt i k && access_is (touches core line) xs k))
 
 -- another core stored to the line after access i and before moment n
-abbrev pub is_taken : ℕ → ℕ → List LineAccess → ℕ → ℕ → Bool
-is_taken core line xs n i = any_below n (λ k. nat_lt i k && access_is (takes core line) xs k)
+abbrev pub is_taken_away : ℕ → ℕ → List LineAccess → ℕ → ℕ → Bool
+is_taken_away core line xs n i = any_below n (λ k. nat_lt i k && access_is (takes core line) xs k)
 
 -- access i is the core's last access to the line before moment n, and no other core stored to the line since
 abbrev pub is_intact : ℕ → ℕ → List LineAccess → ℕ → ℕ → Bool
-is_intact core line xs n i = is_last core line xs n i && not (is_taken core line xs n i)
+is_intact core line xs n i = is_last core line xs n i && not (is_taken_away core line xs n i)
 
 -- how many other lines of the line's set the core accessed after i up to s, with no store to them by another core since
 -- its last access of them up to s: each is counted at that last access

@@ -1,9 +1,12 @@
 ghost use Rattle.std.specs.Prelude.{◌≡◌, ◌<◌, ◌^◌, ◌%◌, length, slice_index, ℕ};
+ghost use Rattle.strand_cache.specs.declared.lines.TheConstants.{LINE_WORDS};
 ghost use Rattle.strand_exec.specs.Memory.{extents_of};
 ghost use Rattle.strand_exec.specs.Plan.{is_data};
 ghost use Rattle.strand_cache.specs.Backing.{with_line, word_at, word_or_zero, IsApart};
 
-use strand_exec::{FlatMemory, PERSISTENT_BASE, VOLATILE_BASE};
+use crate::lines::{LINE_BYTES, LINE_WORDS};
+use strand_base::{PERSISTENT_BASE, VOLATILE_BASE};
+use strand_exec::FlatMemory;
 
 /// Whether an address lies in the regions of a memory.
 pub(crate) fn has_word(memory: &FlatMemory, word: u64) -> bool
@@ -28,13 +31,13 @@ fn word_or_zero(memory: &FlatMemory, word: u64) -> u64
 }
 
 /// The words of a line. Those outside the regions are 0.
-pub(crate) fn line_words(memory: &FlatMemory, line: u64) -> [u64; 8]
+pub(crate) fn line_words(memory: &FlatMemory, line: u64) -> [u64; LINE_WORDS]
     requires { line < 2 ^ 32 }
-    ensures { (k : ℕ) → k < 8 → slice_index result k ≡ word_or_zero memory.now (word_at line k) }
+    ensures { (k : ℕ) → k < LINE_WORDS → slice_index result k ≡ word_or_zero memory.now (word_at line k) }
 {
-    let mut words = [0; 8];
-    for k in 0..8 {
-        words[k] = word_or_zero(memory, 64 * line + 8 * k as u64);
+    let mut words = [0; LINE_WORDS];
+    for k in 0..LINE_WORDS {
+        words[k] = word_or_zero(memory, LINE_BYTES * line + 8 * k as u64);
     }
     words
 }
@@ -62,13 +65,13 @@ pub(crate) fn persistent_words(memory: &FlatMemory) -> usize
 
 /// Puts the words of a line back.
 #[tactic(auto, unfolding(crate::specs::Backing::with_line))]
-pub(crate) fn put_line(memory: &mut FlatMemory, line: u64, words: &[u64; 8])
+pub(crate) fn put_line(memory: &mut FlatMemory, line: u64, words: &[u64; LINE_WORDS])
     requires { line < 2 ^ 32 }
     ensures memory { memory.new ≡ with_line memory.old line words.now }
     ensures extents { extents_of memory.new ≡ extents_of memory.old }
 {
-    for k in 0..8 {
-        let word = 64 * line + 8 * k as u64;
+    for k in 0..LINE_WORDS {
+        let word = LINE_BYTES * line + 8 * k as u64;
         if has_word(memory, word) {
             memory.write(word, words[k]);
         }

@@ -1,4 +1,5 @@
 ghost use Rattle.std.specs.Prelude.{◌≡◌, ◌<◌, ◌≤◌, [], length, replicate, IfOk};
+ghost use Rattle.strand_base.specs.declared.limits.TheConstants.{MOST_WAYS};
 ghost use Rattle.strand_exec.specs.Memory.{extents_of};
 ghost use Rattle.strand_exec.specs.Plan.{IsWord};
 ghost use Rattle.strand_cache.specs.Copies.{owned};
@@ -66,7 +67,7 @@ impl Group {
         requires core { core < length self.old }
         requires word { IsWord (extents_of backing.old) word }
         requires some { 0 < ways }
-        requires fits { ways ≤ 8 }
+        requires fits { ways ≤ MOST_WAYS }
         requires bounded { IsBounded ways self.old }
         ensures { IsSetAccess core word ways change self.old self.new backing.old backing.new result }
     {

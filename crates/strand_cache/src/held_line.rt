@@ -1,8 +1,10 @@
 ghost use Rattle.std.specs.Prelude.{◌≡◌, ◌<◌};
+ghost use Rattle.strand_cache.specs.declared.lines.TheConstants.{LINE_WORDS};
 ghost use Rattle.strand_cache.specs.Copies.{cleaned};
 ghost use Rattle.strand_cache.specs.Coherence.{CopyAfter};
 
 use crate::change::Change;
+use crate::lines::LINE_WORDS;
 use strand_exec::merged;
 
 /// A core's copy of a line.
@@ -13,7 +15,7 @@ pub(crate) struct HeldLine {
     /// Whether the core has changed it since it was last written back. Then no other core holds it.
     pub changed: bool,
     /// Its eight words.
-    pub words: [u64; 8],
+    pub words: [u64; LINE_WORDS],
 }
 
 impl HeldLine {
@@ -30,7 +32,7 @@ impl HeldLine {
 
     /// The copy after an access to the word at a place.
     pub(crate) fn after(self, place: usize, change: Change) -> HeldLine
-        requires { place < 8 }
+        requires { place < LINE_WORDS }
         ensures { CopyAfter change place self result }
     {
         match change {

@@ -1,5 +1,6 @@
 ghost use Rattle.std.specs.Prelude.{◌≡◌, ◌<◌, ◌≤◌, ◌+◌, ◌*◌, ◌^◌, ℕ, [], map, length, replicate, slice_set, IfOk};
 ghost use Rattle.std.specs.List.{range_with_len};
+ghost use Rattle.strand_base.specs.declared.limits.TheConstants.{MOST_MEMORY, CORE_ROOM, MOST_SETS, MOST_WAYS};
 ghost use Rattle.strand_exec.specs.Memory.{extents_of, word_in};
 ghost use Rattle.strand_exec.specs.Plan.{IsWord};
 ghost use Rattle.strand_cache.specs.Changes.{word_after, memory_after};
@@ -10,10 +11,11 @@ use crate::backing::{apart, persistent_words, volatile_words};
 use crate::change::Change;
 use crate::counts::Counts;
 use crate::group::Group;
+use crate::lines::LINE_BYTES;
 use std::alloc::Global;
 use std::marker::Model;
-use strand_base::OutOfMemory;
-use strand_exec::{FlatMemory, PERSISTENT_BASE, VOLATILE_BASE};
+use strand_base::{OutOfMemory, PERSISTENT_BASE, VOLATILE_BASE};
+use strand_exec::FlatMemory;
 
 /// The caches of up to eight cores over one backing memory. Each core holds, for each of `sets` sets, up
 /// to `ways` lines in the order of its last accesses. Where a core has changed a line, it alone holds it,
@@ -31,7 +33,7 @@ pub struct Hierarchy {
 
 impl Model for Hierarchy {
     ghost use Rattle.std.specs.Prelude.{map, length, ◌≡◌};
-    ghost use Rattle.strand_cache.specs.Copies.{lines_of};
+    ghost use Rattle.strand_cache.specs.Copies.{row_lines};
     ghost use Rattle.strand_cache.specs.Seen.{Seen};
     ghost use Rattle.strand_cache.specs.Whole.{IsWhole, flat_memory};
 
@@ -43,7 +45,7 @@ impl Model for Hierarchy {
       ways = h.ways;
       memory = flat_memory h.sets h.groups.items h.backing;
       counts = h.counts.items;
-      lines = map (map lines_of) h.groups.items;
+      lines = map (map row_lines) h.groups.items;
     } };
 
     ghost invariant = { λ h. IsWhole h.cores h.sets h.ways h.groups.items h.backing × (length h.counts.items ≡ h.cores) };
@@ -60,11 +62,11 @@ impl Hierarchy {
         volatile: &[u64],
         persistent: &[u64],
     ) -> Result<Hierarchy, OutOfMemory>
-        requires cores { (1 ≤ cores) × (cores ≤ 8) }
-        requires sets { (1 ≤ sets) × (sets ≤ 64) }
-        requires ways { (1 ≤ ways) × (ways ≤ 8) }
-        requires volatile { length volatile.now ≤ 1048576 }
-        requires persistent { length persistent.now ≤ 1048576 }
+        requires cores { (1 ≤ cores) × (cores ≤ CORE_ROOM) }
+        requires sets { (1 ≤ sets) × (sets ≤ MOST_SETS) }
+        requires ways { (1 ≤ ways) × (ways ≤ MOST_WAYS) }
+        requires volatile { length volatile.now ≤ MOST_MEMORY }
+        requires persistent { length persistent.now ≤ MOST_MEMORY }
         ensures empty { IfOk result (λ h. h
             ≡ empty_caches cores sets ways volatile.now persistent.now) }
         ensures stands { IfOk result (λ h. CachesStand h []) }
@@ -99,7 +101,7 @@ impl Hierarchy {
         ensures access { IsAccess self.old self.new core word change result.hit }
     {
         apart(&self.backing);
-        let set = (word / 64 % self.sets as u64) as usize;
+        let set = (word / LINE_BYTES % self.sets as u64) as usize;
         let group = &mut self.groups[set];
         let seen = group.access(
             &mut self.backing,
@@ -119,9 +121,9 @@ impl Hierarchy {
         ensures { result ≡ word_in self.now.memory word }
     {
         apart(&self.backing);
-        let group = &self.groups[(word / 64 % self.sets as u64) as usize];
-        match group.owned(word / 64) {
-            Some(held) => held.words[(word % 64 / 8) as usize],
+        let group = &self.groups[(word / LINE_BYTES % self.sets as u64) as usize];
+        match group.owned(word / LINE_BYTES) {
+            Some(held) => held.words[(word % LINE_BYTES / 8) as usize],
             None => self.backing.read(word),
         }
     }

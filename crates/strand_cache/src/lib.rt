@@ -9,6 +9,7 @@ mod group;
 mod held_line;
 mod hierarchy;
 mod laws;
+mod lines;
 mod row;
 mod rows;
 
@@ -17,6 +18,7 @@ pub use change::Change;
 pub use counts::Counts;
 pub use hierarchy::Hierarchy;
 pub use laws::cache_laws;
+pub use lines::LINE_BYTES;
 
 #[cfg(test)]
 mod tests;

@@ -1,15 +1,20 @@
 ghost use Rattle.std.specs.Prelude.{◌≡◌, ◌<◌, ◌≤◌, ◌∷◌, [], length, map, take, slice_get, ◌-◌};
 ghost use Rattle.std.specs.List.{find};
+ghost use Rattle.strand_base.specs.declared.limits.TheConstants.{MOST_WAYS};
 ghost use Rattle.strand_cache.specs.Copies.{is_of, is_changed, cleaned, others};
 
 use crate::held_line::HeldLine;
 use arrayvec::ArrayVec;
 use std::marker::Model;
+use strand_base::MOST_WAYS;
+
+// The most lines that a row has.
+const WAYS: usize = MOST_WAYS as usize;
 
 /// The lines of one set that a core holds, the most recently accessed first.
 #[derive(Drop)]
 pub(crate) struct Row {
-    lines: ArrayVec<HeldLine, 8>,
+    lines: ArrayVec<HeldLine, WAYS>,
 }
 
 impl Model for Row {
@@ -75,7 +80,7 @@ impl Row {
     /// for all.
     pub(crate) fn put(&mut self, held: HeldLine, ways: usize) -> Option<HeldLine>
         requires some { 0 < ways }
-        requires fits { ways ≤ 8 }
+        requires fits { ways ≤ MOST_WAYS }
         requires within { length self.old ≤ ways }
         ensures row { self.new ≡ take ways (held ∷ self.old) }
         ensures last { result ≡ slice_get self.old (ways - 1) }

@@ -1,10 +1,11 @@
 ghost use Rattle.std.specs.Prelude.{◌≡◌, ◌≢◌, ◌<◌, ◌≤◌, ◌^◌, ◌∷◌, ◌-◌, length, map, take, true, false, Some, None, ℕ, slice_get, IfSome, IfNone};
 ghost use Rattle.std.specs.List.{find};
+ghost use Rattle.strand_base.specs.declared.limits.TheConstants.{MOST_WAYS};
 ghost use Rattle.strand_exec.specs.Memory.{extents_of, word_in};
 ghost use Rattle.strand_exec.specs.Plan.{IsWord};
 ghost use Rattle.strand_cache.specs.declared.held_line.HeldLine.{HeldLine};
-ghost use Rattle.strand_cache.specs.Copies.{cleaned, is_changed, lines_of, others, row_of};
-ghost use Rattle.strand_cache.specs.Accesses.{line_of};
+ghost use Rattle.strand_cache.specs.Copies.{cleaned, is_changed, row_lines, others, row_of};
+ghost use Rattle.strand_cache.specs.Accesses.{cache_line_of};
 ghost use Rattle.strand_cache.specs.Coherence.{Among, Coheres, Fetched, IsBounded, put_back, IsSetAccess};
 ghost use Rattle.strand_cache.specs.Lists.{without};
 
@@ -12,6 +13,7 @@ use crate::access::Access;
 use crate::backing::{apart, line_words, put_line};
 use crate::change::Change;
 use crate::held_line::HeldLine;
+use crate::lines::LINE_BYTES;
 use crate::row::Row;
 use strand_exec::FlatMemory;
 
@@ -67,9 +69,9 @@ pub(crate) fn drop_elsewhere(rows: &mut [Row], core: usize, line: u64)
 pub(crate) fn recall(rows: &mut [Row], backing: &mut FlatMemory, core: usize, line: u64)
     requires { line < 2 ^ 32 }
     ensures own { row_of rows.new core ≡ row_of rows.old core }
-    ensures lines { (c : ℕ) → lines_of (row_of rows.new c) ≡ lines_of (row_of rows.old c) }
+    ensures lines { (c : ℕ) → row_lines (row_of rows.new c) ≡ row_lines (row_of rows.old c) }
     ensures extents { extents_of backing.new ≡ extents_of backing.old }
-    ensures words { (word : ℕ) → IsWord (extents_of backing.old) word → line_of word ≢ line
+    ensures words { (word : ℕ) → IsWord (extents_of backing.old) word → cache_line_of word ≢ line
         → word_in backing.new word ≡ word_in backing.old word }
     ensures free { (c : ℕ) (h : HeldLine) → c ≢ core → Among h (row_of rows.new c)
         → is_changed line h ≡ false }
@@ -99,11 +101,11 @@ pub(crate) fn settle(
     requires { line < 2 ^ 32 }
     ensures own { row_of rows.new core ≡ row_of rows.old core }
     ensures loads { stores ≡ false → (c : ℕ) → c ≢ core
-        → lines_of (row_of rows.new c) ≡ lines_of (row_of rows.old c) }
+        → row_lines (row_of rows.new c) ≡ row_lines (row_of rows.old c) }
     ensures takes { stores ≡ true → (c : ℕ) → c ≢ core
-        → lines_of (row_of rows.new c) ≡ without line (lines_of (row_of rows.old c)) }
+        → row_lines (row_of rows.new c) ≡ without line (row_lines (row_of rows.old c)) }
     ensures extents { extents_of backing.new ≡ extents_of backing.old }
-    ensures words { (word : ℕ) → IsWord (extents_of backing.old) word → line_of word ≢ line
+    ensures words { (word : ℕ) → IsWord (extents_of backing.old) word → cache_line_of word ≢ line
         → word_in backing.new word ≡ word_in backing.old word }
     ensures free { (c : ℕ) (h : HeldLine) → c ≢ core → Among h (row_of rows.new c)
         → is_changed line h ≡ false }
@@ -139,7 +141,7 @@ pub(crate) fn fetched(found: Option<HeldLine>, backing: &FlatMemory, line: u64) 
 /// was changed.
 pub(crate) fn put_own(row: &mut Row, backing: &mut FlatMemory, held: HeldLine, ways: usize)
     requires some { 0 < ways }
-    requires fits { ways ≤ 8 }
+    requires fits { ways ≤ MOST_WAYS }
     requires short { length row.old ≤ ways }
     requires low { (h : HeldLine) → Among h row.old → h.line < 2 ^ 32 }
     ensures row { row.new ≡ take ways (held ∷ others held.line row.old) }
@@ -169,13 +171,13 @@ pub(crate) fn access(
     requires core { core < length rows.old }
     requires word { IsWord (extents_of backing.old) word }
     requires some { 0 < ways }
-    requires fits { ways ≤ 8 }
+    requires fits { ways ≤ MOST_WAYS }
     requires bounded { IsBounded ways rows.old }
     ensures { IsSetAccess core word ways change rows.old rows.new backing.old backing.new result }
 {
     apart(backing);
-    let line = word / 64;
-    let place = (word % 64 / 8) as usize;
+    let line = word / LINE_BYTES;
+    let place = (word % LINE_BYTES / 8) as usize;
     settle(rows, backing, core, line, change.stores());
     apart(backing);
     let row = &mut rows[core];

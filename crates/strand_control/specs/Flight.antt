@@ -3,7 +3,7 @@ use Rattle.std.specs.Prelude.{◌≡◌, ℕ, ◌<◌, Bool, true, false, ◌==�
 use Rattle.std.specs.declared.option.Option.{Option}
 use Rattle.strand_base.specs.Counting.{any_below}
 use Rattle.strand_modules.specs.Bank.{BankSeen, Stores, store_refused}
-use Rattle.strand_base.specs.Places.{place_of, address_of}
+use Rattle.strand_base.specs.Places.{persistent_place, address_of}
 use Rattle.strand_control.specs.declared.request.Request.{Request}
 use Rattle.strand_control.specs.declared.request.WriteTurn.{WriteTurn}
 use Rattle.strand_control.specs.declared.request.WriteTurn.TheVariants.{Written, NoEntry, OlderWaits, Fault}
@@ -33,10 +33,10 @@ pub record IsKeptBack (requests : List Request) (j : ℕ) (r : Request) : Type 0
 
 -- one store of a request in the bank, accepted or refused by a module
 abbrev pub StoresOk : BankSeen → BankSeen → Request → Type 0
-StoresOk bank bank' r = Stores {T = Unit {0}} store_refused bank bank' (place_of r.word) r.value (Ok tt)
+StoresOk bank bank' r = Stores {T = Unit {0}} store_refused bank bank' (persistent_place r.word) r.value (Ok tt)
 
 abbrev pub StoresErr : BankSeen → BankSeen → Request → ℕ → Type 0
-StoresErr bank bank' r m = Stores {T = Unit {0}} store_refused bank bank' (place_of r.word) r.value (Err (record { «module» = m }))
+StoresErr bank bank' r m = Stores {T = Unit {0}} store_refused bank bank' (persistent_place r.word) r.value (Err (record { «module» = m }))
 
 -- what a write of the request at place j leaves of the list and of the bank, by its answer
 abbrev pub Writes : Flight → Flight → BankSeen → BankSeen → ℕ → WriteTurn → Type 0
@@ -47,4 +47,4 @@ Writes old new bank bank' j (Fault m) = (r : Request) × IsFree old.requests j r
 
 -- each request's word is the one at a place of the bank
 abbrev pub LieInBank : List Request → ℕ → Type 0
-LieInBank requests size = (i : ℕ) (r : Request) → slice_get requests i ≡ Some r → (r.word ≡ address_of (place_of r.word)) × (place_of r.word < size)
+LieInBank requests size = (i : ℕ) (r : Request) → slice_get requests i ≡ Some r → (r.word ≡ address_of (persistent_place r.word)) × (persistent_place r.word < size)

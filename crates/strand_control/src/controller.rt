@@ -1,12 +1,12 @@
 ghost use Rattle.std.specs.Prelude.{◌≡◌, ◌<◌, ◌≤◌, ◌++◌, [], ◌∷◌, IfOk, length, slice_get, remove, nat_lt};
+ghost use Rattle.strand_base.specs.declared.limits.TheConstants.{MOST_FLIGHT};
 ghost use Rattle.strand_control.specs.Flight.{LieInBank, older_waits, Writes};
 ghost use Rattle.strand_modules.specs.Seen.{bank_seen};
 
 use crate::request::{Request, WriteTurn};
 use std::alloc::Global;
 use std::marker::Model;
-use strand_base::OutOfMemory;
-use strand_exec::PERSISTENT_BASE;
+use strand_base::{OutOfMemory, PERSISTENT_BASE};
 use strand_modules::{AtModule, ModuleBank};
 
 /// The requests in flight. Contracts see them in the order in which they were sent, and how many there
@@ -33,7 +33,7 @@ impl Controller {
     /// other call takes any.
     pub fn new(alloc: Global, flight: u32) -> Result<Controller, OutOfMemory>
         requires some { 1 ≤ flight }
-        requires limit { flight ≤ 64 }
+        requires limit { flight ≤ MOST_FLIGHT }
         ensures { IfOk result (λ c. c ≡ record { requests = []; limit = flight }) }
     {
         Ok(Controller {

@@ -1,10 +1,10 @@
--- A persist is joined where its core's last join comes later.
+-- Serves Trace::joined: a persist is joined where its core's last join comes later.
 use Rattle.std.proofs.Common.{◌≡◌, ℕ, zero, suc, ◌+◌, ◌<◌, ◌≤◌, Bool, true, false, ◌&&◌, inl, inr, Some, List, [], ◌∷◌, ◌++◌, length, refl, sym, ap, ◌∙◌, arith, add-one}
 use Rattle.std.specs.Prelude.{nat_lt, slice_index, slice_index_or}
 use Rattle.std.proofs.lemmas.Bool.{cases_Bool, cases_lt, lt-ltb, le-ltb}
 use Rattle.std.proofs.lemmas.Option.{slice_get-get_or}
 use Rattle.strand_base.specs.Counting.{any_below, list_below}
-use Rattle.strand_base.proofs.Counting.{list_get}
+use Rattle.strand_base.proofs.BelowBound.{list_get}
 use Rattle.strand_events.specs.declared.event.Event.{Event}
 use Rattle.strand_events.specs.Trace.{core_of, core_in, core_at, is_join, is_persist, event_is, core_event_is, persists_of}
 use Rattle.strand_events.specs.Fits.{EventFits, AllFit}

@@ -1,19 +1,7 @@
-pub mod Prefix
-pub mod Epochs
-pub mod Chain
-pub mod Images
-pub mod Consequences
-pub mod Marking
-pub mod Kept
+pub mod LongerTrace
+pub mod PersistOrder
+pub mod StrandAndEpoch
+pub mod TraceInvariant
 pub mod Joins
-mod Rows
-pub mod Within
-pub mod Greatest
-pub mod Counted
-pub mod WaitKept
-pub mod Covered
-pub mod Meeting
-pub mod ByOrder
-pub mod VectorSteps
-pub mod Leading
-pub mod ByPrefixes
+pub mod EventWithin
+pub mod Waits

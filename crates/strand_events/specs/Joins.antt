@@ -1,5 +1,6 @@
 -- The last joins of the cores.
 use Rattle.std.specs.Prelude.{◌≡◌, ℕ, zero, suc, ◌<◌, List, length, slice_index_or, if◌then◌else◌}
+use Rattle.strand_base.specs.declared.limits.TheConstants.{CORE_ROOM}
 use Rattle.strand_events.specs.declared.event.Event.{Event}
 use Rattle.strand_events.specs.Trace.{is_join, core_event_is}
 
@@ -10,4 +11,4 @@ join_end core t (suc n) = if core_event_is is_join core t n then suc n else join
 
 -- for each of eight cores
 abbrev pub AreJoinEnds : List Event → ℕ → List ℕ → Type 0
-AreJoinEnds t n ends = (length ends ≡ 8) × ((core : ℕ) → core < 8 → slice_index_or ends core 0 ≡ join_end core t n)
+AreJoinEnds t n ends = (length ends ≡ CORE_ROOM) × ((core : ℕ) → core < CORE_ROOM → slice_index_or ends core 0 ≡ join_end core t n)

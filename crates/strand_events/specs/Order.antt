@@ -38,8 +38,8 @@ abbrev pub Set : Type 0
 Set = ℕ → Bool
 
 -- the set of the numbers that are marked
-abbrev pub held : List Bool → Set
-held marks = λ p. slice_index_or marks p false
+abbrev pub set_of : List Bool → Set
+set_of marks = λ p. slice_index_or marks p false
 
 -- the set holds every persist that is before one of its members
 abbrev pub IsDownwardClosed : Mode → List Event → Set → Type 0

@@ -7,15 +7,15 @@ ghost use Rattle.strand_events.specs.Trace.{persists_of};
 
 use crate::event::Event;
 use std::alloc::Global;
-use strand_base::{Numbers, OutOfMemory};
+use strand_base::{CORE_ROOM, Numbers, OutOfMemory};
 
 /// One past the last join of each core, or 0 where it has none.
-fn join_ends(events: &[Event]) -> [u32; 8]
+fn join_ends(events: &[Event]) -> [u32; CORE_ROOM]
     requires fits { AllFit events.now }
     requires small { length events.now < 2 ^ 32 }
     ensures { AreJoinEnds events.now (length events.now) result }
 {
-    let mut ends = [0; 8];
+    let mut ends = [0; CORE_ROOM];
     for (number, event) in events.iter().enumerate() {
         if let Event::Join { core } = *event {
             ends[core as usize] = number as u32 + 1;

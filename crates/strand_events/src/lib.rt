@@ -2,9 +2,9 @@
 #![tactic(auto)]
 
 mod event;
+mod event_counts;
 mod joined;
 mod laws;
-mod marks;
 mod trace;
 
 pub use event::Event;

@@ -1,15 +1,16 @@
 ghost use Rattle.std.specs.Prelude.{◌≡◌, ◌^◌, ◌<◌, ◌≤◌, [], ◌∷◌, ◌++◌, length, slice_get, Some, IfOk, if◌then◌else◌, vec_len, vec_capacity};
+ghost use Rattle.strand_base.specs.declared.limits.TheConstants.{CORE_ROOM};
 ghost use Rattle.strand_events.specs.Trace.{core_of, epoch, is_persist, persists_of, strand_number};
-ghost use Rattle.strand_events.specs.Fits.{IsMarked, AllFit};
+ghost use Rattle.strand_events.specs.Fits.{KindIsRight, AllFit};
 ghost use Rattle.strand_events.specs.Numbers.{numbers_of};
 ghost use Rattle.strand_events.specs.Order.{is_joined};
 
 use crate::event::Event;
+use crate::event_counts::{EventCounts, NOTHING_MADE, counts_after, epoch_in, strand_in};
 use crate::joined::joined_numbers;
-use crate::marks::{Marks, NOTHING_MADE, epoch_in, marks_after, strand_in};
 use std::alloc::Global;
 use std::marker::Model;
-use strand_base::{Numbers, OutOfMemory};
+use strand_base::{CORE_ROOM, Numbers, OutOfMemory};
 use strand_inputs::Mode;
 
 /// The events of a run, the oldest first, in room that was taken at the start. An event is named by
@@ -19,8 +20,8 @@ use strand_inputs::Mode;
 pub struct Trace {
     events: Vec<Event>,
     persists: Vec<u32>,
-    marks: Vec<Marks>,
-    latest: [Marks; 8],
+    counts: Vec<EventCounts>,
+    latest: [EventCounts; CORE_ROOM],
     room: usize,
 }
 
@@ -30,12 +31,13 @@ impl Model for Trace {
     ghost Value = { TraceSeen };
 
     ghost use Rattle.std.specs.Prelude.{◌≤◌, vec_capacity};
-    ghost use Rattle.strand_events.specs.TraceSeen.{IsKept};
+    ghost use Rattle.strand_events.specs.TraceSeen.{IsKeptTrace};
 
     ghost view = { λ t. record { events = t.events.items; room = t.room } };
 
-    ghost invariant = { λ t. IsKept t.events.items t.room t.persists.items t.marks.items t.latest
-        × (t.room ≤ vec_capacity t.events) × (t.room ≤ vec_capacity t.persists) × (t.room ≤ vec_capacity t.marks) };
+    ghost invariant = { λ t. IsKeptTrace t.events.items t.room t.persists.items t.counts.items
+        t.latest
+        × (t.room ≤ vec_capacity t.events) × (t.room ≤ vec_capacity t.persists) × (t.room ≤ vec_capacity t.counts) };
 }
 
 impl Trace {
@@ -48,8 +50,8 @@ impl Trace {
         Ok(Trace {
             events: Vec::with_capacity(alloc, room)?,
             persists: Vec::with_capacity(alloc, room)?,
-            marks: Vec::with_capacity(alloc, room)?,
-            latest: [NOTHING_MADE; 8],
+            counts: Vec::with_capacity(alloc, room)?,
+            latest: [NOTHING_MADE; CORE_ROOM],
             room,
         })
     }
@@ -92,16 +94,16 @@ impl Trace {
         requires { event < length self.now.events }
         ensures { result ≡ strand_number mode self.now.events event }
     {
-        strand_in(mode, self.marks[event])
+        strand_in(mode, self.counts[event])
     }
 
     /// The epoch of an event, a number within its strand. It takes no memory and constant time.
-    #[tactic(auto, using(crate::proofs::Marking::epoch_marked))]
+    #[tactic(auto, using(crate::proofs::StrandAndEpoch::epoch_counted))]
     pub fn epoch_of(&self, mode: Mode, event: usize) -> u32
         requires { event < length self.now.events }
         ensures { result ≡ epoch mode self.now.events event }
     {
-        epoch_in(mode, self.marks[event])
+        epoch_in(mode, self.counts[event])
     }
 
     /// The numbers of the persists that some core made before its own last join, ascending. It takes
@@ -116,17 +118,17 @@ impl Trace {
     /// Puts an event at the end. It takes no memory.
     pub fn push(&mut self, e: Event)
         requires room { length self.old.events < self.old.room }
-        requires core { core_of e < 8 }
-        requires persist { IsMarked e }
+        requires core { core_of e < CORE_ROOM }
+        requires persist { KindIsRight e }
         ensures events { self.new.events ≡ self.old.events ++ e ∷ [] }
         ensures room { self.new.room ≡ self.old.room }
     {
         let core = e.core() as usize;
-        let marks = self.latest[core];
+        let counts = self.latest[core];
         let number = self.events.len() as u32;
         note_persist(&mut self.persists, e, number);
-        self.marks.push_reserved(marks);
-        self.latest[core] = marks_after(marks, e);
+        self.counts.push_reserved(counts);
+        self.latest[core] = counts_after(counts, e);
         self.events.push_reserved(e);
     }
 }

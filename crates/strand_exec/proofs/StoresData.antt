@@ -1,11 +1,12 @@
--- An instruction stores in a data word alone.
+-- Serves clause placed of Pipeline::trace: an instruction stores in a data word alone.
 use Rattle.std.proofs.Common.{◌≡◌, ℕ, ◌+◌, ◌*◌, ◌/◌, ◌<◌, ◌≤◌, Bool, true, false, inl, inr, List, arith}
 use Rattle.std.specs.Prelude.{Some, None, Option, if◌then◌else◌, ◌==◌, ◌%◌}
 use Rattle.std.proofs.lemmas.Bool.{and_parts, or_cases, cases_Bool, leb-true, ltb-true}
+use Rattle.strand_base.specs.declared.regions.TheConstants.{VOLATILE_BASE, PERSISTENT_BASE}
 use Rattle.strand_isa.specs.declared.instr.Instr.{Instr}
 use Rattle.strand_isa.specs.Decode.{instr_of}
 use Rattle.strand_exec.specs.Arith.{store_bytes, load_bytes}
-use Rattle.strand_exec.specs.Core.{Core, Extents, volatile_base, persistent_base}
+use Rattle.strand_exec.specs.Core.{Core, Extents}
 use Rattle.strand_exec.specs.Table.{row}
 use Rattle.strand_exec.specs.Plan.{is_in, is_data, IsWord, IsPlaced, trapping, effect_of_instr, effect_of_word, effect_of, fetched, asked, plan_of}
 use Rattle.strand_exec.specs.declared.life.Trap.TheVariants as traps
@@ -34,9 +35,9 @@ in_region : (base count address : ℕ) → is_in base count address ≡ true →
 in_region base count address h = let parts = and_parts _ _ h in (leb-true _ _ parts.0, ltb-true _ _ parts.1)
 
 data_word : (x : Extents) (address : ℕ) → is_data x address ≡ true → IsWord x (address / 8 * 8)
-data_word x address h = elim (or_cases (is_in volatile_base x.volatile address) (is_in persistent_base x.persistent address) h) [
-  | inl v ↦ let r = in_region volatile_base x.volatile address v in (omega arith, inl (omega (arith, r.0), omega (arith, r.1)))
-  | inr p ↦ let r = in_region persistent_base x.persistent address p in (omega arith, inr (omega (arith, r.0), omega (arith, r.1)))
+data_word x address h = elim (or_cases (is_in VOLATILE_BASE x.volatile address) (is_in PERSISTENT_BASE x.persistent address) h) [
+  | inl v ↦ let r = in_region VOLATILE_BASE x.volatile address v in (omega arith, inl (omega (arith, r.0), omega (arith, r.1)))
+  | inr p ↦ let r = in_region PERSISTENT_BASE x.persistent address p in (omega arith, inr (omega (arith, r.0), omega (arith, r.1)))
 ]
 
 either : (x : Extents) (b : Bool) (e other : Effect) → StoresData x (asked e) → StoresData x (asked other) → StoresData x (asked (if b then e else other))

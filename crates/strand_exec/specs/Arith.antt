@@ -1,20 +1,20 @@
 -- What the operations of RV64I compute on register values, which are numbers below 2 ^ 64, as the manual says it.
 use Rattle.std.specs.Prelude.{ℕ, ◌+◌, ◌-◌, ◌*◌, ◌/◌, ◌%◌, ◌^◌, ℤ, pos, negsuc, int_lt, nat_lt, nat_eq, if◌then◌else◌, Bool, not, bit_and, bit_or, bit_xor}
 use Rattle.strand_isa.specs.Decode.{signed_of}
-use Rattle.strand_isa.specs.declared.instr.UpperOp.{UpperOp}
-use Rattle.strand_isa.specs.declared.instr.UpperOp.TheVariants.{Lui, Auipc}
-use Rattle.strand_isa.specs.declared.instr.BranchOp.{BranchOp}
-use Rattle.strand_isa.specs.declared.instr.BranchOp.TheVariants.{Beq, Bne, Blt, Bge, Bltu, Bgeu}
-use Rattle.strand_isa.specs.declared.instr.LoadOp.{LoadOp}
-use Rattle.strand_isa.specs.declared.instr.LoadOp.TheVariants.{Lb, Lh, Lw, Ld, Lbu, Lhu, Lwu}
-use Rattle.strand_isa.specs.declared.instr.StoreOp.{StoreOp}
-use Rattle.strand_isa.specs.declared.instr.StoreOp.TheVariants.{Sb, Sh, Sw, Sd}
-use Rattle.strand_isa.specs.declared.instr.ImmOp.{ImmOp}
-use Rattle.strand_isa.specs.declared.instr.ImmOp.TheVariants.{Addi, Slti, Sltiu, Xori, Ori, Andi, Addiw}
-use Rattle.strand_isa.specs.declared.instr.ShiftOp.{ShiftOp}
-use Rattle.strand_isa.specs.declared.instr.ShiftOp.TheVariants.{Slli, Srli, Srai, Slliw, Srliw, Sraiw}
-use Rattle.strand_isa.specs.declared.instr.RegOp.{RegOp}
-use Rattle.strand_isa.specs.declared.instr.RegOp.TheVariants.{Add, Sub, Sll, Slt, Sltu, Xor, Srl, Sra, Or, And, Addw, Subw, Sllw, Srlw, Sraw}
+use Rattle.strand_isa.specs.declared.ops.UpperOp.{UpperOp}
+use Rattle.strand_isa.specs.declared.ops.UpperOp.TheVariants.{Lui, Auipc}
+use Rattle.strand_isa.specs.declared.ops.BranchOp.{BranchOp}
+use Rattle.strand_isa.specs.declared.ops.BranchOp.TheVariants.{Beq, Bne, Blt, Bge, Bltu, Bgeu}
+use Rattle.strand_isa.specs.declared.ops.LoadOp.{LoadOp}
+use Rattle.strand_isa.specs.declared.ops.LoadOp.TheVariants.{Lb, Lh, Lw, Ld, Lbu, Lhu, Lwu}
+use Rattle.strand_isa.specs.declared.ops.StoreOp.{StoreOp}
+use Rattle.strand_isa.specs.declared.ops.StoreOp.TheVariants.{Sb, Sh, Sw, Sd}
+use Rattle.strand_isa.specs.declared.ops.ImmOp.{ImmOp}
+use Rattle.strand_isa.specs.declared.ops.ImmOp.TheVariants.{Addi, Slti, Sltiu, Xori, Ori, Andi, Addiw}
+use Rattle.strand_isa.specs.declared.ops.ShiftOp.{ShiftOp}
+use Rattle.strand_isa.specs.declared.ops.ShiftOp.TheVariants.{Slli, Srli, Srai, Slliw, Srliw, Sraiw}
+use Rattle.strand_isa.specs.declared.ops.RegOp.{RegOp}
+use Rattle.strand_isa.specs.declared.ops.RegOp.TheVariants.{Add, Sub, Sll, Slt, Sltu, Xor, Srl, Sra, Or, And, Addw, Subw, Sllw, Srlw, Sraw}
 
 -- a signed number modulo 2 ^ 64
 abbrev pub residue : ℤ → ℕ
@@ -102,13 +102,13 @@ load_bytes Lwu = 4
 
 -- rd from the word that holds the bytes, and the number of bytes before them in it
 abbrev pub load_value : LoadOp → ℕ → ℕ → ℕ
-load_value Lb held place = extended 8 (held / 2 ^ (8 * place))
-load_value Lh held place = extended 16 (held / 2 ^ (8 * place))
-load_value Lw held place = extended 32 (held / 2 ^ (8 * place))
-load_value Ld held place = held
-load_value Lbu held place = held / 2 ^ (8 * place) % 2 ^ 8
-load_value Lhu held place = held / 2 ^ (8 * place) % 2 ^ 16
-load_value Lwu held place = held / 2 ^ (8 * place) % 2 ^ 32
+load_value Lb loaded place = extended 8 (loaded / 2 ^ (8 * place))
+load_value Lh loaded place = extended 16 (loaded / 2 ^ (8 * place))
+load_value Lw loaded place = extended 32 (loaded / 2 ^ (8 * place))
+load_value Ld loaded place = loaded
+load_value Lbu loaded place = loaded / 2 ^ (8 * place) % 2 ^ 8
+load_value Lhu loaded place = loaded / 2 ^ (8 * place) % 2 ^ 16
+load_value Lwu loaded place = loaded / 2 ^ (8 * place) % 2 ^ 32
 
 -- how many bytes a store writes
 abbrev pub store_bytes : StoreOp → ℕ

@@ -1,20 +1,9 @@
--- A core: its pc, its 32 registers, and whether it runs; and where the words of the regions are.
+-- A core: its pc, its 32 registers, and whether it runs.
 use Rattle.std.specs.Prelude.{ℕ, ◌+◌, ◌*◌, ◌%◌, ◌^◌, ◌==◌, List, replicate, slice_index, slice_set, if◌then◌else◌}
+use Rattle.strand_base.specs.declared.regions.TheConstants.{CODE_BASE}
 use Rattle.strand_exec.specs.declared.life.Life.{Life}
 use Rattle.strand_exec.specs.declared.life.Life.TheVariants.{Running, Trapped}
 use Rattle.strand_exec.specs.declared.life.Trap.{Trap}
-
--- where the code words, of four bytes, begin
-abbrev pub code_base : ℕ
-code_base = 0x10000000
-
--- where the volatile words, of eight bytes, begin
-abbrev pub volatile_base : ℕ
-volatile_base = 0x20000000
-
--- where the persistent words, of eight bytes, begin
-abbrev pub persistent_base : ℕ
-persistent_base = 0x40000000
 
 pub record Core : Type 0 where
   pub pc : ℕ
@@ -28,7 +17,7 @@ pub record Extents : Type 0 where
 
 -- a core that begins at a code word
 unfoldable pub fresh : ℕ → Core
-fresh entry = record { pc = code_base + 4 * entry; regs = replicate 32 0; life = Running }
+fresh entry = record { pc = CODE_BASE + 4 * entry; regs = replicate 32 0; life = Running }
 
 -- the value of a register
 abbrev pub reg : Core → ℕ → ℕ

@@ -1,7 +1,8 @@
 -- One instruction of a running core: the access, order, output, halt or trap that it makes, and the core after it.
 use Rattle.std.specs.Prelude.{◌≡◌, ℕ, ◌+◌, ◌-◌, ◌*◌, ◌/◌, ◌%◌, ◌^◌, ◌<◌, ◌≤◌, ◌==◌, ◌&&◌, ◌||◌, ◌⊎◌, nat_le, nat_lt, Bool, List, slice_get, Option, Some, None, if◌then◌else◌}
+use Rattle.strand_base.specs.declared.regions.TheConstants.{CODE_BASE, VOLATILE_BASE, PERSISTENT_BASE}
 use Rattle.strand_isa.specs.declared.instr.Instr.{Instr}
-use Rattle.strand_isa.specs.declared.instr.StoreOp.{StoreOp}
+use Rattle.strand_isa.specs.declared.ops.StoreOp.{StoreOp}
 use Rattle.strand_isa.specs.Decode.{instr_of}
 use Rattle.strand_exec.specs.declared.life.Life.TheVariants.{Halted}
 use Rattle.strand_exec.specs.declared.life.Trap.TheVariants.{Fetch, Target, Illegal, Misaligned, Access, Call as CallTrap}
@@ -10,13 +11,13 @@ use Rattle.strand_exec.specs.declared.planned.Plan.TheVariants.{Plain, Load, Sto
 use Rattle.strand_exec.specs.declared.effect.Effect.{Effect}
 use Rattle.strand_exec.specs.declared.effect.Effect.TheVariants.{Write, Jump, Goto, LoadFrom, StoreTo, Barrier, BeginStrand, Join, Call, Out, Halt, Traps}
 use Rattle.strand_exec.specs.Arith.{load_bytes, load_value, merged, store_bytes, with_bits}
-use Rattle.strand_exec.specs.Core.{Core, Extents, code_base, moved_to, next_pc, persistent_base, trapped, volatile_base, with_reg}
+use Rattle.strand_exec.specs.Core.{Core, Extents, moved_to, next_pc, trapped, with_reg}
 use Rattle.strand_exec.specs.Table.{row}
 
 -- the code word at a pc
 abbrev pub fetched : List ℕ → ℕ → Option ℕ
 fetched code pc =
-    if nat_le code_base pc && (pc % 4 == 0) then slice_get code ((pc - code_base) / 4) else None
+    if nat_le CODE_BASE pc && (pc % 4 == 0) then slice_get code ((pc - CODE_BASE) / 4) else None
 
 -- an address inside `count` words of eight bytes from `base` on
 abbrev pub is_in : ℕ → ℕ → ℕ → Bool
@@ -24,7 +25,7 @@ is_in base count address = nat_le base address && nat_lt address (base + 8 * cou
 
 -- an address inside the volatile words or the persistent words
 abbrev pub is_data : Extents → ℕ → Bool
-is_data extents address = is_in volatile_base extents.volatile address || is_in persistent_base extents.persistent address
+is_data extents address = is_in VOLATILE_BASE extents.volatile address || is_in PERSISTENT_BASE extents.persistent address
 
 -- an access of `size` bytes: first its alignment is tried, then its place
 abbrev pub accessing : Extents → ℕ → ℕ → Effect → Effect
@@ -100,7 +101,7 @@ finished core code extents loaded = after core loaded (effect_of core code exten
 -- an address inside the volatile words or the persistent words
 abbrev pub IsData : Extents → ℕ → Type 0
 IsData extents address =
-    ((volatile_base ≤ address) × (address < volatile_base + 8 * extents.volatile)) ⊎ ((persistent_base ≤ address) × (address < persistent_base + 8 * extents.persistent))
+    ((VOLATILE_BASE ≤ address) × (address < VOLATILE_BASE + 8 * extents.volatile)) ⊎ ((PERSISTENT_BASE ≤ address) × (address < PERSISTENT_BASE + 8 * extents.persistent))
 
 -- the address of a data word
 abbrev pub IsWord : Extents → ℕ → Type 0

@@ -3,8 +3,8 @@ ghost use Rattle.strand_exec.specs.Arith.{load_bytes, load_value, merged, store_
 ghost use Rattle.strand_exec.specs.Plan.{IsData, is_data, store_bits, store_mask};
 
 use crate::arithmetic::{byte, half, word};
-use crate::regions::{PERSISTENT_BASE, VOLATILE_BASE};
 use crate::sizes::Sizes;
+use strand_base::{PERSISTENT_BASE, VOLATILE_BASE};
 use strand_isa::{LoadOp, StoreOp};
 
 /// How many bytes a load reads.
@@ -48,15 +48,15 @@ pub(crate) fn is_data(sizes: Sizes, address: u64) -> bool
 }
 
 /// What a load gives, from the word that holds its bytes.
-pub(crate) fn load_value(op: LoadOp, held: u64, address: u64) -> u64
-    ensures { result ≡ load_value op held (address % 8) }
+pub(crate) fn load_value(op: LoadOp, loaded: u64, address: u64) -> u64
+    ensures { result ≡ load_value op loaded (address % 8) }
 {
-    let low = held >> (8 * (address % 8));
+    let low = loaded >> (8 * (address % 8));
     match op {
         LoadOp::Lb => byte(low),
         LoadOp::Lh => half(low),
         LoadOp::Lw => word(low),
-        LoadOp::Ld => held,
+        LoadOp::Ld => loaded,
         LoadOp::Lbu => low % 0x100,
         LoadOp::Lhu => low % 0x1_0000,
         LoadOp::Lwu => low % 0x1_0000_0000,

@@ -1,7 +1,7 @@
 ghost use Rattle.std.specs.Prelude.{◌≡◌, ◌+◌, ◌-◌, ◌*◌, ◌/◌, ◌%◌, ◌^◌, ◌<◌, ◌≤◌, ◌↔◌, IsTrue, nat_lt, bit_xor, bit_or, bit_and};
 ghost use Rattle.strand_exec.specs.Arith.{extended, flag, imm_value, is_taken, merged, reg_value, residue, shift_value, shifted_signed, signed_less, upper_value};
 ghost use Rattle.strand_exec.specs.Table.{plus};
-ghost use Rattle.strand_isa.specs.Codes.{amount_bound};
+ghost use Rattle.strand_isa.specs.Ops.{amount_bound};
 
 use strand_isa::{BranchOp, ImmOp, RegOp, ShiftOp, UpperOp};
 

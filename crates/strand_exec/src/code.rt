@@ -9,11 +9,10 @@ use crate::core_state::CoreState;
 use crate::effect::Effect;
 use crate::life::Trap;
 use crate::planning::effect_of_instr;
-use crate::regions::CODE_BASE;
 use crate::sizes::Sizes;
 use std::alloc::Global;
 use std::marker::Model;
-use strand_base::OutOfMemory;
+use strand_base::{CODE_BASE, OutOfMemory};
 use strand_isa::{Instr, decode};
 
 /// Code words, each decoded once. Contracts see the list of the words.

@@ -1,9 +1,10 @@
 ghost use Rattle.std.specs.Prelude.{◌≡◌, ◌<◌};
+ghost use Rattle.strand_base.specs.declared.limits.TheConstants.{MOST_CODE};
 ghost use Rattle.strand_exec.specs.Core.{fresh, reg, with_reg};
 
 use crate::life::Life;
-use crate::regions::CODE_BASE;
 use std::marker::Model;
+use strand_base::CODE_BASE;
 
 /// A core: its pc, its registers x0 to x31, of which x0 is always 0, and whether it runs.
 #[derive(Clone, Copy, Debug, PartialEq, Eq)]
@@ -33,7 +34,7 @@ impl CoreState {
     /// A core that begins at a code word: all registers are 0, and it runs.
     #[tactic(auto, unfolding(crate::specs::Core::fresh))]
     pub fn new(entry: u32) -> CoreState
-        requires { entry < 65536 }
+        requires { entry < MOST_CODE }
         ensures { result ≡ fresh entry }
     {
         CoreState {

@@ -1,11 +1,11 @@
 ghost use Rattle.std.specs.Prelude.{◌≡◌, ◌≢◌, ◌≤◌, ℕ, length, IfOk};
+ghost use Rattle.strand_base.specs.declared.limits.TheConstants.{MOST_MEMORY};
 ghost use Rattle.strand_exec.specs.Plan.{IsWord};
 ghost use Rattle.strand_exec.specs.Memory.{extents_of, with_word, word_in};
 
-use crate::regions::{PERSISTENT_BASE, VOLATILE_BASE};
 use std::alloc::Global;
 use std::marker::Model;
-use strand_base::OutOfMemory;
+use strand_base::{OutOfMemory, PERSISTENT_BASE, VOLATILE_BASE};
 
 /// A flat memory of at most 1,048,576 volatile and 1,048,576 persistent words of eight bytes, which are
 /// named by their addresses.
@@ -19,13 +19,14 @@ pub struct FlatMemory {
 
 impl Model for FlatMemory {
     ghost use Rattle.std.specs.Prelude.{◌≤◌, length};
+    ghost use Rattle.strand_base.specs.declared.limits.TheConstants.{MOST_MEMORY};
     ghost use Rattle.strand_exec.specs.Memory.{Memory};
 
     ghost Value = { Memory };
 
     ghost view = { λ m. record { volatile = m.volatile.items; persistent = m.persistent.items } };
 
-    ghost invariant = { λ m. (length m.volatile.items ≤ 1048576) × (length m.persistent.items ≤ 1048576) };
+    ghost invariant = { λ m. (length m.volatile.items ≤ MOST_MEMORY) × (length m.persistent.items ≤ MOST_MEMORY) };
 }
 
 impl FlatMemory {
@@ -35,8 +36,8 @@ impl FlatMemory {
         volatile: &[u64],
         persistent: &[u64],
     ) -> Result<FlatMemory, OutOfMemory>
-        requires volatile { length volatile.now ≤ 1048576 }
-        requires persistent { length persistent.now ≤ 1048576 }
+        requires volatile { length volatile.now ≤ MOST_MEMORY }
+        requires persistent { length persistent.now ≤ MOST_MEMORY }
         ensures { IfOk result (λ m. (m.volatile ≡ volatile.now) × (m.persistent ≡ persistent.now)) }
     {
         Ok(FlatMemory {

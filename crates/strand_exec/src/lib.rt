@@ -11,7 +11,6 @@ mod flat_memory;
 mod life;
 mod planned;
 mod planning;
-mod regions;
 mod rows;
 mod sizes;
 
@@ -24,7 +23,6 @@ pub use flat_memory::FlatMemory;
 pub use life::{Life, Trap};
 pub use planned::Plan;
 pub use planning::{asked, plan};
-pub use regions::{CODE_BASE, PERSISTENT_BASE, VOLATILE_BASE};
 pub use sizes::Sizes;
 
 #[cfg(test)]

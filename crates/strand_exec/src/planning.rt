@@ -8,9 +8,9 @@ use crate::core_state::CoreState;
 use crate::effect::Effect;
 use crate::life::{Life, Trap};
 use crate::planned::Plan;
-use crate::regions::CODE_BASE;
 use crate::rows::row;
 use crate::sizes::Sizes;
+use strand_base::CODE_BASE;
 use strand_isa::{Instr, decode};
 
 /// The code word at a pc.

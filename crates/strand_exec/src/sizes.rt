@@ -11,13 +11,14 @@ pub struct Sizes {
 
 impl Model for Sizes {
     ghost use Rattle.std.specs.Prelude.{◌≤◌};
+    ghost use Rattle.strand_base.specs.declared.limits.TheConstants.{MOST_MEMORY};
     ghost use Rattle.strand_exec.specs.Core.{Extents};
 
     ghost Value = { Extents };
 
     ghost view = { λ s. record { volatile = s.volatile; persistent = s.persistent } };
 
-    ghost invariant = { λ s. (s.volatile ≤ 1048576) × (s.persistent ≤ 1048576) };
+    ghost invariant = { λ s. (s.volatile ≤ MOST_MEMORY) × (s.persistent ≤ MOST_MEMORY) };
 
     ghost inverse = { λ e. record { volatile = e.volatile; persistent = e.persistent } };
 }

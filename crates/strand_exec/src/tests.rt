@@ -137,11 +137,11 @@ fn stores(rt: HostRuntime) {
     ];
     for (code, x1, value) in cases {
         let core = core_with(x1, 0x8877_6655_4433_2211);
-        let held = match plan(&core, &[code], SIZES) {
+        let stored = match plan(&core, &[code], SIZES) {
             Plan::Store { word, mask, bits } => (word, merged(0x0102_0304_0506_0708, mask, bits)),
             _ => (0, 0),
         };
-        assert_eq!(rt; held, (0x4000_0000, value));
+        assert_eq!(rt; stored, (0x4000_0000, value));
         assert_eq!(rt; after(code, x1, 0, 0).pc, 0x1000_0004);
     }
 }

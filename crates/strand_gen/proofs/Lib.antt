@@ -1,3 +1,3 @@
-pub mod Lists
-pub mod Lengths
-mod Vectors
+pub mod DrawList
+pub mod GeneratedImage
+mod Examples

@@ -2,12 +2,12 @@
 use Rattle.std.specs.Prelude.{ℕ, ◌*◌, ◌==◌, nat_lt, pos, negsuc, List, [], ◌∷◌, ◌++◌, map, replicate, if◌then◌else◌}
 use Rattle.strand_isa.specs.declared.instr.Instr.{Instr}
 use Rattle.strand_isa.specs.declared.instr.Instr.TheVariants.{Upper, Jal, Load, Store, Imm, PersistBarrier, NewStrand, JoinStrand}
-use Rattle.strand_isa.specs.declared.instr.UpperOp.TheVariants.{Lui}
-use Rattle.strand_isa.specs.declared.instr.LoadOp.TheVariants.{Ld}
-use Rattle.strand_isa.specs.declared.instr.StoreOp.TheVariants.{Sd}
-use Rattle.strand_isa.specs.declared.instr.ImmOp.TheVariants.{Addi}
+use Rattle.strand_isa.specs.declared.ops.UpperOp.TheVariants.{Lui}
+use Rattle.strand_isa.specs.declared.ops.LoadOp.TheVariants.{Ld}
+use Rattle.strand_isa.specs.declared.ops.StoreOp.TheVariants.{Sd}
+use Rattle.strand_isa.specs.declared.ops.ImmOp.TheVariants.{Addi}
 use Rattle.strand_isa.specs.Word.{word_of}
-use Rattle.strand_image.specs.Parts.{Parts, parts}
+use Rattle.strand_image.specs.ImageSeen.{ImageSeen, image_seen}
 use Rattle.strand_gen.specs.Draws.{Drawn, ◌>>=◌, give, draw, draw_list, initial_state}
 
 -- sd x1, OFFSET(BASE) and ld x4, OFFSET(BASE), at one of so many words
@@ -60,5 +60,5 @@ unfoldable pub code_of : ℕ → List ℕ
 code_of seed = map word_of (program (initial_state seed)).0
 
 -- the image of two cores, whose data is zeros
-abbrev pub generated_image : ℕ → Parts
-generated_image seed = parts (0 ∷ 66 ∷ []) (code_of seed) (replicate 16 0) (replicate 64 0)
+abbrev pub generated_image : ℕ → ImageSeen
+generated_image seed = image_seen (0 ∷ 66 ∷ []) (code_of seed) (replicate 16 0) (replicate 64 0)

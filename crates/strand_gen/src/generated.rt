@@ -1,4 +1,5 @@
 ghost use Rattle.std.specs.Prelude.{◌≡◌, ◌≤◌, All, IfOk};
+ghost use Rattle.strand_base.specs.declared.limits.TheConstants.{MOST_STEPS};
 ghost use Rattle.strand_inputs.specs.Schedule.{IsBelow};
 ghost use Rattle.strand_gen.specs.Inputs.{generated_machine, generated_schedule};
 ghost use Rattle.strand_gen.specs.Program.{generated_image};
@@ -25,7 +26,7 @@ pub struct Generated {
 /// docs/FORMATS.md, "Generator". Seeds 0 and 1 give the same. It fails only where memory ran out.
 pub fn generate(alloc: Global, seed: u64, size: u32) -> Result<Generated, OutOfMemory>
     requires some { 1 ≤ size }
-    requires room { size ≤ 200000 }
+    requires room { size ≤ MOST_STEPS }
     ensures config { IfOk result (λ g. g.config ≡ generated_machine) }
     ensures image { IfOk result (λ g. g.image ≡ generated_image seed) }
     ensures schedule { IfOk result (λ g. g.schedule ≡ generated_schedule seed size) }

@@ -116,12 +116,12 @@ fn push_core(code: &mut Vec<u32>, draws: &mut Draws) -> Result<(), OutOfMemory>
         ≡ code.old.items ++ map word_of (core_program draws.old.state).0) }
     ensures state { OnOk result (draws.new.state ≡ (core_program draws.old.state).1) }
 {
-    let volatile = Instr::Upper {
+    let persistent = Instr::Upper {
         op: UpperOp::Lui,
         rd: 2,
         imm: 0x40000,
     };
-    let persistent = Instr::Upper {
+    let volatile = Instr::Upper {
         op: UpperOp::Lui,
         rd: 3,
         imm: 0x20000,
@@ -130,8 +130,8 @@ fn push_core(code: &mut Vec<u32>, draws: &mut Draws) -> Result<(), OutOfMemory>
         rd: 0,
         offset: -252,
     };
-    code.push(encode(&volatile))?;
     code.push(encode(&persistent))?;
+    code.push(encode(&volatile))?;
     push_drawn(code, draws)?;
     code.push(encode(&again))?;
     Ok(())
@@ -150,7 +150,7 @@ fn code_words(alloc: Global, seed: u64) -> Result<Vec<u32>, OutOfMemory>
 }
 
 /// The image of the drawn program, whose data is zeros.
-#[tactic(auto, using(crate::proofs::Lengths::image_made))]
+#[tactic(auto, using(crate::proofs::GeneratedImage::image_made))]
 pub(crate) fn generated_image(alloc: Global, seed: u64) -> Result<Image, OutOfMemory>
     ensures { IfOk result (λ image. image ≡ generated_image seed) }
 {

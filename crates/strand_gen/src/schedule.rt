@@ -1,4 +1,5 @@
 ghost use Rattle.std.specs.Prelude.{◌≡◌, ◌≤◌, All, IfOk};
+ghost use Rattle.strand_base.specs.declared.limits.TheConstants.{MOST_STEPS};
 ghost use Rattle.strand_inputs.specs.Fits.{StepFits};
 ghost use Rattle.strand_inputs.specs.Schedule.{IsBelow};
 ghost use Rattle.strand_gen.specs.Inputs.{step_by, step, generated_schedule};
@@ -45,7 +46,7 @@ pub(crate) fn generated_schedule(
     seed: u64,
     size: u32,
 ) -> Result<Schedule, OutOfMemory>
-    requires { size ≤ 200000 }
+    requires { size ≤ MOST_STEPS }
     ensures steps { IfOk result (λ s. s ≡ generated_schedule seed size) }
     ensures below { IfOk result (λ s. All (IsBelow 2 2) s) }
 {

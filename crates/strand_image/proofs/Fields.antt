@@ -1,4 +1,4 @@
--- Numbers one after the other in the bytes of a file.
+-- Serves clauses spelling of read_image and again of write_image: numbers one after the other in a file.
 use Rattle.std.proofs.Common.{◌≡◌, ℕ, zero, suc, ◌+◌, ◌*◌, ◌^◌, ◌<◌, ◌≤◌, arith, inl, inr, length, take, drop, get_or, List, [], ◌∷◌, ◌++◌, refl, ap, append_assoc}
 use Rattle.std.specs.List.{flat_map}
 use Rattle.std.proofs.lemmas.List.{drop-drop, length-drop, length-take, length-take-le, length-append, take-append-drop, get_or-take, get_or-drop, get_or_past}

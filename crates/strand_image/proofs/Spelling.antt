@@ -1,3 +1,4 @@
+-- Serves clauses again of write_image and spelling of read_image.
 -- One spelling for each image: what is written is read back, and what is read was written so.
 use Rattle.std.proofs.Common.{◌≡◌, ℕ, zero, suc, ◌+◌, ◌*◌, ◌^◌, ◌<◌, ◌≤◌, arith, Bool, true, false, cond, nat_lt, nat_le, length, take, drop, List, [], ◌∷◌, ◌++◌, Option, Some, None, Result, Ok, Err, refl, sym, ap, subst, ◌∙◌}
 use Rattle.std.proofs.lemmas.List.{drop-drop, length-drop, length-append, take-append-drop, append-nil, drop_all}
@@ -6,21 +7,21 @@ use Rattle.std.proofs.lemmas.Bool.Decides.{nat_tests}
 use Rattle.std.proofs.lemmas.Slice.Eq.{bytes_eq-Decides}
 use Rattle.std.specs.Str.{bytes_eq}
 use lib.Chars.{codes}
-use Rattle.strand_image.specs.Parts.{Parts}
+use Rattle.strand_image.specs.ImageSeen.{ImageSeen}
 use Rattle.strand_image.specs.Limits.{AreBelow, AreEntries, IsWithin, IsWithinLimits, IsImage}
-use Rattle.strand_image.specs.Image.{numbers, u32_of, u64_of, u32s, u64s, bytes_of_u32, bytes_of_u64, bytes_of_u32s, bytes_of_u64s, header_at, file_length, parts_at, has_header, has_magic, within, within_limits, has_length, entries_exist, unless_stray, header_within, header_of, image_of, list_bytes, image_bytes, ◌>>=◌}
-use Rattle.strand_image.specs.declared.fault.Quantity.{Quantity}
-use Rattle.strand_image.specs.declared.fault.Quantity.TheVariants.{Cores, Code, Volatile, Persistent}
+use Rattle.strand_image.specs.Image.{numbers, u32_of, u64_of, u32s, u64s, bytes_of_u32, bytes_of_u64, bytes_of_u32s, bytes_of_u64s, header_at, file_length, parts_at, has_header, has_magic, limit_check, within_limits, has_length, entries_exist, unless_stray, header_within, header_of, image_of, list_bytes, image_bytes, ◌>>=◌}
+use Rattle.strand_image.specs.declared.quantity.Quantity.{Quantity}
+use Rattle.strand_image.specs.declared.quantity.Quantity.TheVariants.{Cores, Code, Volatile, Persistent}
 use Rattle.strand_image.specs.declared.fault.ImageFault.{ImageFault}
 use Rattle.strand_image.specs.declared.fault.ImageFault.TheVariants.{Magic}
 use Rattle.strand_image.specs.declared.reading.Header.{Header}
 use Rattle.strand_image.proofs.Fields.{AreBytes, bytes_in_drop, u32_spells, u64_spells, past_list, length-spelt, list_again, list_spelt, length-numbers, number_at}
 
 -- the header of an image
-abbrev pub header : Parts → Header
+abbrev pub header : ImageSeen → Header
 header p = record { cores = length p.entries; code = length p.code; volatile = length p.volatile; persistent = length p.persistent }
 
-within_ok : (what : Quantity) (n : ℕ) → IsWithin what n → within what n ≡ Ok tt
+within_ok : (what : Quantity) (n : ℕ) → IsWithin what n → limit_check what n ≡ Ok tt
 within_ok what n h = grind (arith, nat_tests)
 
 limits_ok : (cores code volatile persistent : ℕ) → IsWithinLimits cores code volatile persistent → within_limits cores code volatile persistent ≡ Ok tt
@@ -34,15 +35,15 @@ length_ok n = grind (arith, nat_tests)
 not_le : (m n : ℕ) → n < m → nat_le m n ≡ false
 not_le m n lt = grind (arith, nat_tests)
 
-unless_all : (p : Parts) (n : ℕ) → n ≡ length p.entries → unless_stray p (cond (nat_lt n (length p.entries)) (Some n) None) ≡ Ok p
+unless_all : (p : ImageSeen) (n : ℕ) → n ≡ length p.entries → unless_stray p (cond (nat_lt n (length p.entries)) (Some n) None) ≡ Ok p
 unless_all p n e = let f : nat_lt n (length p.entries) ≡ false = grind (arith, nat_tests) in rw f refl
 
-entries_ok : (p : Parts) → AreEntries p.entries (length p.code) → entries_exist p ≡ Ok p
+entries_ok : (p : ImageSeen) → AreEntries p.entries (length p.code) → entries_exist p ≡ Ok p
 unfolding entries_exist
 entries_ok p h =
     unless_all p _ (position_or_len_is (λ entry. nat_le (length p.code) entry) p.entries (length p.entries) 0 (omega arith) (λ k lt. not_le _ _ (h k lt)) (λ lt. absurd (omega arith)))
 
-length-lists : (p : Parts) → length (list_bytes p) ≡ 4 * length p.entries + 4 * length p.code + 8 * length p.volatile + 8 * length p.persistent
+length-lists : (p : ImageSeen) → length (list_bytes p) ≡ 4 * length p.entries + 4 * length p.code + 8 * length p.volatile + 8 * length p.persistent
 length-lists p = simp (
   length-append,
   length-spelt u32_of bytes_of_u32 4 (2 ^ 32) p.entries u32_spells,
@@ -52,35 +53,35 @@ length-lists p = simp (
 ) (omega arith)
 
 -- the four counts of an image, which fit 32 bits
-abbrev pub counts : Parts → List ℕ
+abbrev pub counts : ImageSeen → List ℕ
 counts p = length p.entries ∷ length p.code ∷ length p.volatile ∷ length p.persistent ∷ []
 
-counts_below : (p : Parts) → IsImage p → AreBelow (2 ^ 32) (counts p)
+counts_below : (p : ImageSeen) → IsImage p → AreBelow (2 ^ 32) (counts p)
 counts_below p i zero lt = omega arith
 counts_below p i (suc zero) lt = omega arith
 counts_below p i (suc (suc zero)) lt = omega arith
 counts_below p i (suc (suc (suc zero))) lt = omega arith
 counts_below p i (suc (suc (suc (suc k)))) lt = absurd (omega arith)
 
-length-image : (p : Parts) → length (image_bytes p) ≡ file_length (header p)
+length-image : (p : ImageSeen) → length (image_bytes p) ≡ file_length (header p)
 unfolding image_bytes
 length-image p = omega (arith, length-append (bytes_of_u32s (counts p)) (list_bytes p), length-spelt u32_of bytes_of_u32 4 (2 ^ 32) (counts p) u32_spells, length-lists p)
 
 -- the header that is written is read back
-header_again : (p : Parts) → IsImage p → header_at (image_bytes p) ≡ header p
+header_again : (p : ImageSeen) → IsImage p → header_at (image_bytes p) ≡ header p
 unfolding image_bytes
 header_again p i =
     let at = λ (k : ℕ) (lt : k < 4). number_at u32_of bytes_of_u32 4 (2 ^ 32) (counts p) (list_bytes p) k u32_spells (counts_below p i) lt in
     rw (at 0 (omega arith), at 1 (omega arith), at 2 (omega arith), at 3 (omega arith)) refl
 
-past_header : (p : Parts) → drop 24 (image_bytes p) ≡ list_bytes p
+past_header : (p : ImageSeen) → drop 24 (image_bytes p) ≡ list_bytes p
 unfolding image_bytes
 past_header p = past_list u32_of bytes_of_u32 4 (2 ^ 32) (counts p) (list_bytes p) u32_spells
 
 last_again : (ns : List ℕ) → AreBelow (2 ^ 64) ns → u64s (length ns) (bytes_of_u64s ns) ≡ ns
 last_again ns below = rw (append-nil (bytes_of_u64s ns)) at (list_again u64_of bytes_of_u64 8 (2 ^ 64) ns [] u64_spells below)
 
-parts_again : (p : Parts) → IsImage p → parts_at (header p) (image_bytes p) ≡ p
+parts_again : (p : ImageSeen) → IsImage p → parts_at (header p) (image_bytes p) ≡ p
 parts_again p i =
     let volatile = bytes_of_u64s p.volatile ++ bytes_of_u64s p.persistent in
     let code = bytes_of_u32s p.code ++ volatile in
@@ -100,7 +101,7 @@ header_ok : (h : Header) → IsWithinLimits h.cores h.code h.volatile h.persiste
 unfolding header_within
 header_ok h i = rw (limits_ok _ _ _ _ i) refl
 
-image_ok : (bytes : List ℕ) (p : Parts) → IsImage p → length bytes ≡ file_length (header p) → take 8 bytes ≡ codes "STRANDP1" → header_at bytes ≡ header p → parts_at (header p) bytes ≡ p → image_of bytes ≡ Ok p
+image_ok : (bytes : List ℕ) (p : ImageSeen) → IsImage p → length bytes ≡ file_length (header p) → take 8 bytes ≡ codes "STRANDP1" → header_at bytes ≡ header p → parts_at (header p) bytes ≡ p → image_of bytes ≡ Ok p
 unfolding image_of header_of
 image_ok bytes p i l m h q =
     let whole : has_header bytes ≡ Ok tt = grind (arith, nat_tests) in
@@ -109,11 +110,11 @@ image_ok bytes p i l m h q =
     let long : has_length (file_length (header p)) (length bytes) ≡ Ok tt = rw l (length_ok (file_length (header p))) in
     rw (whole, magic, limits, long, q) (entries_ok p i.entries)
 
-magic_first : (p : Parts) → take 8 (image_bytes p) ≡ codes "STRANDP1"
+magic_first : (p : ImageSeen) → take 8 (image_bytes p) ≡ codes "STRANDP1"
 unfolding image_bytes
 magic_first p = refl
 
-pub image_again : (p : Parts) → IsImage p → image_of (image_bytes p) ≡ Ok p
+pub image_again : (p : ImageSeen) → IsImage p → image_of (image_bytes p) ≡ Ok p
 image_again p i = image_ok (image_bytes p) p i (length-image p) (magic_first p) (header_again p i) (parts_again p i)
 
 -- what a sequence of steps that is Ok did
@@ -141,22 +142,22 @@ same_header h k e =
     let same : Ok h ≡ Ok k = d.2 in
     cc
 
-same_unless : (p q : Parts) (stray : Option ℕ) → unless_stray p stray ≡ Ok q → p ≡ q
+same_unless : (p q : ImageSeen) (stray : Option ℕ) → unless_stray p stray ≡ Ok q → p ≡ q
 same_unless p q None e = cc
 same_unless p q (Some core) e = absurd cc
 
-same_parts : (p q : Parts) → entries_exist p ≡ Ok q → p ≡ q
+same_parts : (p q : ImageSeen) → entries_exist p ≡ Ok q → p ≡ q
 unfolding entries_exist
 same_parts p q e = same_unless p q _ e
 
 -- what the bytes of an image are
-record IsSpelling (bytes : List ℕ) (p : Parts) : Type 0 where
+record IsSpelling (bytes : List ℕ) (p : ImageSeen) : Type 0 where
   whole : 24 ≤ length bytes
   magic : take 8 bytes ≡ codes "STRANDP1"
   long : length bytes ≡ file_length (header_at bytes)
   same : p ≡ parts_at (header_at bytes) bytes
 
-is_spelling : (bytes : List ℕ) (p : Parts) → image_of bytes ≡ Ok p → IsSpelling bytes p
+is_spelling : (bytes : List ℕ) (p : ImageSeen) → image_of bytes ≡ Ok p → IsSpelling bytes p
 unfolding image_of header_of
 is_spelling bytes p e =
     let header_did = did (header_of bytes) (λ h. has_length (file_length h) (length bytes) >>= λ a. entries_exist (parts_at h bytes)) p e in
@@ -199,7 +200,7 @@ unfolding numbers
 header_spelt bytes all le =
     simp length-numbers (simp drop-drop at (list_spelt u32_of bytes_of_u32 4 (2 ^ 32) 4 (drop 8 bytes) u32_spells (bytes_in_drop 8 bytes all) (simp length-drop (omega arith))))
 
-pub image_spelt : (bytes : List ℕ) (p : Parts) → AreBytes bytes → image_of bytes ≡ Ok p → bytes ≡ image_bytes p
+pub image_spelt : (bytes : List ℕ) (p : ImageSeen) → AreBytes bytes → image_of bytes ≡ Ok p → bytes ≡ image_bytes p
 unfolding image_bytes
 image_spelt bytes p all e =
     let i = is_spelling bytes p e in

@@ -1,3 +1,3 @@
-pub mod Parts
+pub mod ImageSeen
 pub mod Limits
 pub mod Image

@@ -1,8 +1,9 @@
 -- How much an image may have, and that its entries are in its code.
 use Rattle.std.specs.Prelude.{ℕ, ◌<◌, ◌≤◌, ◌^◌, ◌&&◌, Bool, nat_le, List, length, slice_index}
-use Rattle.strand_image.specs.Parts.{Parts}
-use Rattle.strand_image.specs.declared.fault.Quantity.{Quantity}
-use Rattle.strand_image.specs.declared.fault.Quantity.TheVariants.{Cores, Code, Volatile, Persistent}
+use Rattle.strand_base.specs.declared.limits.TheConstants.{MOST_CORES, MOST_CODE, MOST_DATA}
+use Rattle.strand_image.specs.ImageSeen.{ImageSeen}
+use Rattle.strand_image.specs.declared.quantity.Quantity.{Quantity}
+use Rattle.strand_image.specs.declared.quantity.Quantity.TheVariants.{Cores, Code, Volatile, Persistent}
 
 -- the least and the greatest number of each quantity
 abbrev pub least : Quantity → ℕ
@@ -12,10 +13,10 @@ least Volatile = 0
 least Persistent = 1
 
 abbrev pub most : Quantity → ℕ
-most Cores = 4
-most Code = 65536
-most Volatile = 131072
-most Persistent = 131072
+most Cores = MOST_CORES
+most Code = MOST_CODE
+most Volatile = MOST_DATA
+most Persistent = MOST_DATA
 
 abbrev pub is_within : Quantity → ℕ → Bool
 is_within what n = nat_le (least what) n && nat_le n (most what)
@@ -37,7 +38,7 @@ AreBelow bound numbers = (k : ℕ) → k < length numbers → slice_index number
 abbrev pub AreEntries : List ℕ → ℕ → Type 0
 AreEntries entries words = (core : ℕ) → core < length entries → slice_index entries core < words
 
-pub record IsImage (p : Parts) : Type 0 where
+pub record IsImage (p : ImageSeen) : Type 0 where
   pub limits : IsWithinLimits (length p.entries) (length p.code) (length p.volatile) (length p.persistent)
   pub entries : AreEntries p.entries (length p.code)
   pub entry_numbers : AreBelow (2 ^ 32) p.entries

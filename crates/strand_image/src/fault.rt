@@ -1,14 +1,5 @@
+use crate::quantity::Quantity;
 use thiserror::Error;
-
-/// What an image has a limited number of: cores, 32-bit code words, 64-bit volatile words and 64-bit
-/// persistent words.
-#[derive(Clone, Copy, Debug, PartialEq, Eq)]
-pub enum Quantity {
-    Cores,
-    Code,
-    Volatile,
-    Persistent,
-}
 
 /// Why bytes are no image file, or lists no image. Lengths are in bytes, and a core's entry is the
 /// number of a code word.

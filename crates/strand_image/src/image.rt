@@ -1,9 +1,10 @@
 ghost use Rattle.std.specs.Prelude.{◌≡◌, ◌≤◌, length, position, slice_index, nat_le, OnOk};
-ghost use Rattle.strand_image.specs.Parts.{parts};
+ghost use Rattle.strand_image.specs.ImageSeen.{image_seen};
 ghost use Rattle.strand_image.specs.Limits.{IsWithinLimits, IsImage};
-ghost use Rattle.strand_image.specs.Image.{within, within_limits, entries_exist, made};
+ghost use Rattle.strand_image.specs.Image.{limit_check, within_limits, entries_exist, checked_image};
 
-use crate::{ImageFault, Quantity};
+use crate::fault::ImageFault;
+use crate::quantity::Quantity;
 use std::marker::Model;
 
 /// A program: the entry of each core, the code words, and the words of volatile and persistent
@@ -18,27 +19,22 @@ pub struct Image {
 }
 
 impl Model for Image {
-    ghost use Rattle.strand_image.specs.Parts.{Parts, parts};
+    ghost use Rattle.strand_image.specs.ImageSeen.{ImageSeen, image_seen};
 
-    ghost Value = { Parts };
+    ghost Value = { ImageSeen };
 
     ghost use Rattle.strand_image.specs.Limits.{IsImage};
 
-    ghost view = { λ s. parts s.entries.items s.code.items s.volatile.items s.persistent.items };
+    ghost view = { λ s. image_seen s.entries.items s.code.items s.volatile.items
+        s.persistent.items };
 
-    ghost invariant = { λ s. IsImage (parts s.entries.items s.code.items s.volatile.items s.persistent.items) };
+    ghost invariant = { λ s. IsImage (image_seen s.entries.items s.code.items s.volatile.items s.persistent.items) };
 }
 
 fn check(what: Quantity, number: u64) -> Result<(), ImageFault>
-    ensures gives { result ≡ within what number }
+    ensures gives { result ≡ limit_check what number }
 {
-    let (least, most) = match what {
-        Quantity::Cores => (1, 4),
-        Quantity::Code => (1, 65_536),
-        Quantity::Volatile => (0, 131_072),
-        Quantity::Persistent => (1, 131_072),
-    };
-    if least <= number && number <= most {
+    if what.allows(number) {
         Ok(())
     } else {
         Err(ImageFault::Limit {
@@ -80,7 +76,7 @@ pub(crate) fn with_entries(
     persistent: Vec<u64>,
 ) -> Result<Image, ImageFault>
     requires { IsWithinLimits (length entries.items) (length code.items) (length volatile.items) (length persistent.items) }
-    ensures { result ≡ entries_exist (parts entries.items code.items volatile.items persistent.items) }
+    ensures { result ≡ entries_exist (image_seen entries.items code.items volatile.items persistent.items) }
 {
     if let Some(core) = stray_core(&entries, code.len()) {
         return Err(ImageFault::Entry {
@@ -102,14 +98,15 @@ impl Image {
     /// `Limit` comes exactly for the first of cores, code, volatile and persistent words whose number
     /// is outside its limits, and `Entry` exactly where there is none, for the first entry that is no
     /// code word's number.
-    #[tactic(auto, unfolding(crate::specs::Image::made))]
+    #[tactic(auto, unfolding(crate::specs::Image::checked_image))]
     pub fn make(
         entries: Vec<u32>,
         code: Vec<u32>,
         volatile: Vec<u64>,
         persistent: Vec<u64>,
     ) -> Result<Image, ImageFault>
-        ensures { result ≡ made (parts entries.items code.items volatile.items persistent.items) }
+        ensures { result ≡ checked_image
+            (image_seen entries.items code.items volatile.items persistent.items) }
     {
         check_limits(
             entries.len() as u64,

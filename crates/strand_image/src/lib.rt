@@ -5,11 +5,13 @@
 mod fault;
 mod image;
 mod numbers;
+mod quantity;
 mod reading;
 mod writing;
 
-pub use fault::{ImageFault, Quantity};
+pub use fault::ImageFault;
 pub use image::Image;
+pub use quantity::Quantity;
 pub use reading::read_image;
 pub use writing::write_image;
 

@@ -1,6 +1,6 @@
 ghost use Rattle.std.specs.Prelude.{◌≡◌, ◌≤◌, length, IfOk};
 ghost use Rattle.strand_image.specs.Limits.{IsWithinLimits};
-ghost use Rattle.strand_image.specs.Image.{header_at, header_of, file_length, has_length, parts_at, entries_exist, image_of, image_bytes, Gives};
+ghost use Rattle.strand_image.specs.Image.{header_at, header_of, file_length, has_length, parts_at, entries_exist, image_of, image_bytes, GivesImage};
 
 use crate::image::{check_limits, with_entries};
 use crate::numbers::{read_u32s, read_u64s, u32_at};
@@ -75,7 +75,7 @@ fn check_length(header: Header, have: u64) -> Result<(), ImageFault>
 fn read_parts(alloc: Global, bytes: &[u8], header: Header) -> Result<Image, ImageFault>
     requires within { IsWithinLimits header.cores header.code header.volatile header.persistent }
     requires whole { length bytes.now ≡ file_length header }
-    ensures { Gives result (entries_exist (parts_at header bytes.now)) }
+    ensures { GivesImage result (entries_exist (parts_at header bytes.now)) }
 {
     let entries = bytes.split_at(24).1;
     let code = entries.split_at(4 * header.cores as usize).1;
@@ -105,7 +105,7 @@ fn read_parts(alloc: Global, bytes: &[u8], header: Header) -> Result<Image, Imag
 /// code word's number. `OutOfMemory` may come in place of an image or of `Entry`.
 #[tactic(auto, unfolding(crate::specs::Image::image_of))]
 pub fn read_image(alloc: Global, bytes: &[u8]) -> Result<Image, ImageFault>
-    ensures gives { Gives result (image_of bytes.now) }
+    ensures gives { GivesImage result (image_of bytes.now) }
     ensures spelling { IfOk result (λ image. bytes.now ≡ image_bytes image) }
 {
     let header = header_of(bytes)?;

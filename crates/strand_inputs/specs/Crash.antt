@@ -15,8 +15,8 @@ words_in zero bytes = []
 words_in (suc count) bytes = word_in bytes ∷ words_in count (drop 8 bytes)
 
 -- the crash image of so many words that the bytes are, unless their number is another
-unfoldable pub crash_of : ℕ → List ℕ → Result (List ℕ) InputFault
-crash_of words bytes = if length bytes == 8 * words then Ok (words_in words bytes) else Err (CrashLength (8 * words) (length bytes))
+unfoldable pub crash_words_of : ℕ → List ℕ → Result (List ℕ) InputFault
+crash_words_of words bytes = if length bytes == 8 * words then Ok (words_in words bytes) else Err (CrashLength (8 * words) (length bytes))
 
 -- the bytes of a word, and the one spelling of a crash image
 unfoldable pub word_bytes : ℕ → List ℕ

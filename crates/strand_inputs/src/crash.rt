@@ -1,7 +1,7 @@
 ghost use Rattle.std.specs.Prelude.{◌≡◌, ◌+◌, ◌*◌, ◌++◌, ◌≤◌, [], ◌∷◌, length, drop, IfOk, OnOk, OnErr, Ok};
 ghost use Rattle.strand_base.specs.Puts.{Puts};
-ghost use Rattle.strand_inputs.specs.Reading.{Gives};
-ghost use Rattle.strand_inputs.specs.Crash.{word_in, words_in, crash_of, word_bytes, crash_bytes};
+ghost use Rattle.strand_inputs.specs.Reading.{GivesInput};
+ghost use Rattle.strand_inputs.specs.Crash.{word_in, words_in, crash_words_of, word_bytes, crash_bytes};
 
 use crate::fault::InputFault;
 use std::alloc::Global;
@@ -83,9 +83,9 @@ fn read_words(alloc: Global, bytes: &[u8], count: u32) -> Result<Words, OutOfMem
 ///
 /// `CrashLength` comes exactly where the number of bytes isn't eight times the words. Bytes that are
 /// accepted are those that `print_crash` appends.
-#[tactic(auto, unfolding(crate::specs::Crash::crash_of))]
+#[tactic(auto, unfolding(crate::specs::Crash::crash_words_of))]
 pub fn read_crash(alloc: Global, bytes: &[u8], words: u32) -> Result<Words, InputFault>
-    ensures gives { Gives (λ words. words) result (crash_of words bytes.now) }
+    ensures gives { GivesInput (λ words. words) result (crash_words_of words bytes.now) }
     ensures spelling { IfOk result (λ words. bytes.now ≡ crash_bytes words) }
 {
     let need = 8 * u64::from(words);
@@ -110,7 +110,7 @@ fn put_word(into: &mut Vec<u8>, word: u64) -> Result<(), OutOfMemory>
 /// appended.
 pub fn print_crash(words: &[u64], into: &mut Vec<u8>) -> Result<(), OutOfMemory>
     ensures text { Puts result (crash_bytes words.now) into.old.items into.new.items }
-    ensures again { crash_of (length words.now) (crash_bytes words.now) ≡ Ok words.now }
+    ensures again { crash_words_of (length words.now) (crash_bytes words.now) ≡ Ok words.now }
 {
     for word in words {
         put_word(into, *word)?;

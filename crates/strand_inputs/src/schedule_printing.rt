@@ -1,7 +1,7 @@
 ghost use Rattle.std.specs.Prelude.{◌≡◌, ℕ, ◌+◌, ◌^◌, ◌<◌, ◌≤◌, length, [], ◌∷◌, Ok, codes, decimal, nat_le, if◌then◌else◌};
 ghost use Rattle.strand_base.specs.Text.{line_text};
 ghost use Rattle.strand_base.specs.Puts.{Puts};
-ghost use Rattle.strand_inputs.specs.Schedule.{schedule_of, same_step, run_words, schedule_text, IsBelow};
+ghost use Rattle.strand_inputs.specs.Schedule.{schedule_of, same_step, repeat_words, schedule_text, IsBelow};
 ghost use Rattle.strand_inputs.specs.declared.step.Step.TheVariants.{Send};
 ghost use Rattle.std.specs.List.{prefix_len, AllByRecursion};
 
@@ -37,7 +37,7 @@ fn same_front(step: Step, others: &[Step]) -> usize
     front
 }
 
-/// A run of steps of one number.
+/// A repeat of steps of one number.
 fn put_numbers(into: &mut Vec<u8>, form: &str, number: u32, count: usize) -> Result<(), OutOfMemory>
     ensures { Puts result
         (line_text (form.now ∷ decimal number ∷ (if nat_le 2 count then codes "*" ∷ decimal count ∷ [] else [])))
@@ -56,9 +56,9 @@ fn put_numbers(into: &mut Vec<u8>, form: &str, number: u32, count: usize) -> Res
     )
 }
 
-/// A run of `s` steps.
+/// A repeat of `s` steps.
 fn put_send(into: &mut Vec<u8>, n: u32, b: u32, j: u32, count: usize) -> Result<(), OutOfMemory>
-    ensures { Puts result (line_text (run_words (Send n b j, count))) into.old.items into.new.items }
+    ensures { Puts result (line_text (repeat_words (Send n b j, count))) into.old.items into.new.items }
 {
     let mut core = Buffer::new();
     let mut buffer = Buffer::new();
@@ -74,8 +74,8 @@ fn put_send(into: &mut Vec<u8>, n: u32, b: u32, j: u32, count: usize) -> Result<
     put_line(into, b"s", &[core, buffer, place, "*".as_bytes(), times])
 }
 
-fn put_run(into: &mut Vec<u8>, step: Step, count: usize) -> Result<(), OutOfMemory>
-    ensures { Puts result (line_text (run_words (step, count))) into.old.items into.new.items }
+fn put_repeat(into: &mut Vec<u8>, step: Step, count: usize) -> Result<(), OutOfMemory>
+    ensures { Puts result (line_text (repeat_words (step, count))) into.old.items into.new.items }
 {
     match step {
         Step::Core(n) => put_numbers(into, "c", n, count),
@@ -85,19 +85,19 @@ fn put_run(into: &mut Vec<u8>, step: Step, count: usize) -> Result<(), OutOfMemo
     }
 }
 
-fn put_runs(into: &mut Vec<u8>, steps: &[Step]) -> Result<(), OutOfMemory>
+fn put_repeats(into: &mut Vec<u8>, steps: &[Step]) -> Result<(), OutOfMemory>
     ensures { Puts result (schedule_text steps.now) into.old.items into.new.items }
 {
     let mut rest = steps;
     while let Some((first, others)) = rest.split_first() {
         let more = same_front(*first, others);
-        put_run(into, *first, more + 1)?;
+        put_repeat(into, *first, more + 1)?;
         rest = &others[more..];
     }
     Ok(())
 }
 
-/// Appends the printed form of a schedule: a line for each longest run of equal steps, with ` * K` where
+/// Appends the printed form of a schedule: a line for each longest repeat of equal steps, with ` * K` where
 /// K is at least 2. It is read back to the schedule, with any cores and buffers that its steps are
 /// below. Where memory ran out, a front of it is appended.
 pub fn print_schedule(schedule: &Schedule, into: &mut Vec<u8>) -> Result<(), OutOfMemory>
@@ -106,5 +106,5 @@ pub fn print_schedule(schedule: &Schedule, into: &mut Vec<u8>) -> Result<(), Out
         → AllByRecursion (IsBelow cores buffers) schedule.now
         → schedule_of cores buffers (schedule_text schedule.now) ≡ Ok schedule.now }
 {
-    put_runs(into, schedule.steps())
+    put_repeats(into, schedule.steps())
 }

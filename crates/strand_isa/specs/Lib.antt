@@ -1,4 +1,5 @@
-pub mod Codes
+pub mod Opcodes
+pub mod Ops
 pub mod Word
 pub mod Faults
 pub mod Decode

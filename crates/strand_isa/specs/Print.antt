@@ -10,81 +10,7 @@ use Rattle.strand_isa.specs.declared.printing.Part.{Part}
 use Rattle.strand_isa.specs.declared.printing.Part.TheVariants.{Register, Upper as Field, Number, Memory}
 use Rattle.strand_isa.specs.declared.instr.Instr.{Instr}
 use Rattle.strand_isa.specs.declared.instr.Instr.TheVariants.{Upper, Jal, Jalr, Branch, Load, Store, Imm, Shift, Reg, Fence, Ecall, Ebreak, PersistBarrier, NewStrand, JoinStrand}
-use Rattle.strand_isa.specs.declared.instr.UpperOp.{UpperOp}
-use Rattle.strand_isa.specs.declared.instr.UpperOp.TheVariants.{Lui, Auipc}
-use Rattle.strand_isa.specs.declared.instr.BranchOp.{BranchOp}
-use Rattle.strand_isa.specs.declared.instr.BranchOp.TheVariants.{Beq, Bne, Blt, Bge, Bltu, Bgeu}
-use Rattle.strand_isa.specs.declared.instr.LoadOp.{LoadOp}
-use Rattle.strand_isa.specs.declared.instr.LoadOp.TheVariants.{Lb, Lh, Lw, Ld, Lbu, Lhu, Lwu}
-use Rattle.strand_isa.specs.declared.instr.StoreOp.{StoreOp}
-use Rattle.strand_isa.specs.declared.instr.StoreOp.TheVariants.{Sb, Sh, Sw, Sd}
-use Rattle.strand_isa.specs.declared.instr.ImmOp.{ImmOp}
-use Rattle.strand_isa.specs.declared.instr.ImmOp.TheVariants.{Addi, Slti, Sltiu, Xori, Ori, Andi, Addiw}
-use Rattle.strand_isa.specs.declared.instr.ShiftOp.{ShiftOp}
-use Rattle.strand_isa.specs.declared.instr.ShiftOp.TheVariants.{Slli, Srli, Srai, Slliw, Srliw, Sraiw}
-use Rattle.strand_isa.specs.declared.instr.RegOp.{RegOp}
-use Rattle.strand_isa.specs.declared.instr.RegOp.TheVariants.{Add, Sub, Sll, Slt, Sltu, Xor, Srl, Sra, Or, And, Addw, Subw, Sllw, Srlw, Sraw}
-
-abbrev pub upper_name : UpperOp → List ℕ
-upper_name Lui = codes "lui"
-upper_name Auipc = codes "auipc"
-
-abbrev pub branch_name : BranchOp → List ℕ
-branch_name Beq = codes "beq"
-branch_name Bne = codes "bne"
-branch_name Blt = codes "blt"
-branch_name Bge = codes "bge"
-branch_name Bltu = codes "bltu"
-branch_name Bgeu = codes "bgeu"
-
-abbrev pub load_name : LoadOp → List ℕ
-load_name Lb = codes "lb"
-load_name Lh = codes "lh"
-load_name Lw = codes "lw"
-load_name Ld = codes "ld"
-load_name Lbu = codes "lbu"
-load_name Lhu = codes "lhu"
-load_name Lwu = codes "lwu"
-
-abbrev pub store_name : StoreOp → List ℕ
-store_name Sb = codes "sb"
-store_name Sh = codes "sh"
-store_name Sw = codes "sw"
-store_name Sd = codes "sd"
-
-abbrev pub imm_name : ImmOp → List ℕ
-imm_name Addi = codes "addi"
-imm_name Slti = codes "slti"
-imm_name Sltiu = codes "sltiu"
-imm_name Xori = codes "xori"
-imm_name Ori = codes "ori"
-imm_name Andi = codes "andi"
-imm_name Addiw = codes "addiw"
-
-abbrev pub shift_name : ShiftOp → List ℕ
-shift_name Slli = codes "slli"
-shift_name Srli = codes "srli"
-shift_name Srai = codes "srai"
-shift_name Slliw = codes "slliw"
-shift_name Srliw = codes "srliw"
-shift_name Sraiw = codes "sraiw"
-
-abbrev pub reg_name : RegOp → List ℕ
-reg_name Add = codes "add"
-reg_name Sub = codes "sub"
-reg_name Sll = codes "sll"
-reg_name Slt = codes "slt"
-reg_name Sltu = codes "sltu"
-reg_name Xor = codes "xor"
-reg_name Srl = codes "srl"
-reg_name Sra = codes "sra"
-reg_name Or = codes "or"
-reg_name And = codes "and"
-reg_name Addw = codes "addw"
-reg_name Subw = codes "subw"
-reg_name Sllw = codes "sllw"
-reg_name Srlw = codes "srlw"
-reg_name Sraw = codes "sraw"
+use Rattle.strand_isa.specs.Ops.{branch_row, imm_row, load_row, reg_row, shift_row, store_row, upper_row}
 
 -- the hexadecimal digits of a number, without leading zeros
 unfoldable pub short_hex : ℕ → List ℕ
@@ -117,15 +43,15 @@ three name a b c = two name a b ++ 44 ∷ 32 ∷ c
 
 -- None where no text stands for the instruction: a fence other than the one that 'fence' is
 unfoldable pub instr_text : Instr → Option (List ℕ)
-instr_text (Upper op rd imm) = Some (two (upper_name op) (register_text rd) (field_text imm))
+instr_text (Upper op rd imm) = Some (two (upper_row op).name (register_text rd) (field_text imm))
 instr_text (Jal rd offset) = Some (two (codes "jal") (register_text rd) (signed_decimal offset))
 instr_text (Jalr rd rs1 imm) = Some (two (codes "jalr") (register_text rd) (memory_text imm rs1))
-instr_text (Branch op rs1 rs2 offset) = Some (three (branch_name op) (register_text rs1) (register_text rs2) (signed_decimal offset))
-instr_text (Load op rd rs1 imm) = Some (two (load_name op) (register_text rd) (memory_text imm rs1))
-instr_text (Store op rs1 rs2 imm) = Some (two (store_name op) (register_text rs2) (memory_text imm rs1))
-instr_text (Imm op rd rs1 imm) = Some (three (imm_name op) (register_text rd) (register_text rs1) (signed_decimal imm))
-instr_text (Shift op rd rs1 amount) = Some (three (shift_name op) (register_text rd) (register_text rs1) (decimal amount))
-instr_text (Reg op rd rs1 rs2) = Some (three (reg_name op) (register_text rd) (register_text rs1) (register_text rs2))
+instr_text (Branch op rs1 rs2 offset) = Some (three (branch_row op).name (register_text rs1) (register_text rs2) (signed_decimal offset))
+instr_text (Load op rd rs1 imm) = Some (two (load_row op).name (register_text rd) (memory_text imm rs1))
+instr_text (Store op rs1 rs2 imm) = Some (two (store_row op).name (register_text rs2) (memory_text imm rs1))
+instr_text (Imm op rd rs1 imm) = Some (three (imm_row op).name (register_text rd) (register_text rs1) (signed_decimal imm))
+instr_text (Shift op rd rs1 amount) = Some (three (shift_row op).name (register_text rd) (register_text rs1) (decimal amount))
+instr_text (Reg op rd rs1 rs2) = Some (three (reg_row op).name (register_text rd) (register_text rs1) (register_text rs2))
 instr_text (Fence rd rs1 bits) = if word_of (Fence rd rs1 bits) == 0x0ff0000f then Some (codes "fence") else None
 instr_text Ecall = Some (codes "ecall")
 instr_text Ebreak = Some (codes "ebreak")

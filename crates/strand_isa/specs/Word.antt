@@ -2,7 +2,8 @@
 use Rattle.std.specs.Prelude.{◌≡◌, ℕ, ◌+◌, ◌-◌, ◌*◌, ◌/◌, ◌%◌, ◌<◌, ℤ, pos, negsuc}
 use Rattle.strand_isa.specs.declared.instr.Instr.{Instr}
 use Rattle.strand_isa.specs.declared.instr.Instr.TheVariants.{Upper, Jal, Jalr, Branch, Load, Store, Imm, Shift, Reg, Fence, Ecall, Ebreak, PersistBarrier, NewStrand, JoinStrand}
-use Rattle.strand_isa.specs.Codes.{amount_bound, branch_funct3, imm_funct3, imm_opcode, load_funct3, reg_funct3, reg_funct7, reg_opcode, shift_funct3, shift_funct6, shift_opcode, store_funct3, upper_opcode}
+use Rattle.strand_isa.specs.Opcodes.{JAL, JALR, MISC_MEM}
+use Rattle.strand_isa.specs.Ops.{amount_bound, branch_row, imm_row, load_row, reg_row, shift_row, store_row, upper_row}
 
 -- a signed number from -h to h - 1 as a field of values below 2 * h
 abbrev pub field_of : ℕ → ℤ → ℕ
@@ -10,13 +11,13 @@ field_of h (pos n) = n
 field_of h (negsuc n) = 2 * h - (n + 1)
 
 -- a signed number from -h to h - 1
-abbrev pub IsWithin : ℕ → ℤ → Type 0
-IsWithin h (pos n) = n < h
-IsWithin h (negsuc n) = n < h
+abbrev pub IsInRange : ℕ → ℤ → Type 0
+IsInRange h (pos n) = n < h
+IsInRange h (negsuc n) = n < h
 
 -- an even signed number from -h to h - 1
 abbrev pub IsEvenWithin : ℕ → ℤ → Type 0
-IsEvenWithin h z = IsWithin h z × (field_of h z % 2 ≡ 0)
+IsEvenWithin h z = IsInRange h z × (field_of h z % 2 ≡ 0)
 
 -- the fields of the I form
 abbrev pub i_form : ℕ → ℕ → ℕ → ℕ → ℕ → ℕ
@@ -38,18 +39,22 @@ j_form opcode rd imm =
     opcode + rd * 128 + imm / 4096 % 256 * 4096 + imm / 2048 % 2 * 1048576 + imm / 2 % 1024 * 2097152 + imm / 1048576 * 2147483648
 
 abbrev pub word_of : Instr → ℕ
-word_of (Upper op rd imm) = upper_opcode op + rd * 128 + imm * 4096
-word_of (Jal rd offset) = j_form 0b1101111 rd (field_of 1048576 offset)
-word_of (Jalr rd rs1 imm) = i_form 0b1100111 rd 0 rs1 (field_of 2048 imm)
-word_of (Branch op rs1 rs2 offset) = b_form 0b1100011 (branch_funct3 op) rs1 rs2 (field_of 4096 offset)
-word_of (Load op rd rs1 imm) = i_form 0b0000011 rd (load_funct3 op) rs1 (field_of 2048 imm)
-word_of (Store op rs1 rs2 imm) = s_form 0b0100011 (store_funct3 op) rs1 rs2 (field_of 2048 imm)
-word_of (Imm op rd rs1 imm) = i_form (imm_opcode op) rd (imm_funct3 op) rs1 (field_of 2048 imm)
+word_of (Upper op rd imm) = (upper_row op).codes.opcode + rd * 128 + imm * 4096
+word_of (Jal rd offset) = j_form JAL rd (field_of 1048576 offset)
+word_of (Jalr rd rs1 imm) = i_form JALR rd 0 rs1 (field_of 2048 imm)
+word_of (Branch op rs1 rs2 offset) =
+    b_form (branch_row op).codes.opcode (branch_row op).codes.funct3 rs1 rs2 (field_of 4096 offset)
+word_of (Load op rd rs1 imm) =
+    i_form (load_row op).codes.opcode rd (load_row op).codes.funct3 rs1 (field_of 2048 imm)
+word_of (Store op rs1 rs2 imm) =
+    s_form (store_row op).codes.opcode (store_row op).codes.funct3 rs1 rs2 (field_of 2048 imm)
+word_of (Imm op rd rs1 imm) =
+    i_form (imm_row op).codes.opcode rd (imm_row op).codes.funct3 rs1 (field_of 2048 imm)
 word_of (Shift op rd rs1 amount) =
-    i_form (shift_opcode op) rd (shift_funct3 op) rs1 (amount + shift_funct6 op * 64)
+    i_form (shift_row op).codes.opcode rd (shift_row op).codes.funct3 rs1 (amount + (shift_row op).codes.top * 64)
 word_of (Reg op rd rs1 rs2) =
-    i_form (reg_opcode op) rd (reg_funct3 op) rs1 (rs2 + reg_funct7 op * 32)
-word_of (Fence rd rs1 bits) = i_form 0b0001111 rd 0 rs1 bits
+    i_form (reg_row op).codes.opcode rd (reg_row op).codes.funct3 rs1 (rs2 + (reg_row op).codes.top * 32)
+word_of (Fence rd rs1 bits) = i_form MISC_MEM rd 0 rs1 bits
 word_of Ecall = 0x00000073
 word_of Ebreak = 0x00100073
 word_of PersistBarrier = 0x0000000b
@@ -60,12 +65,12 @@ word_of JoinStrand = 0x0000200b
 abbrev pub IsValid : Instr → Type 0
 IsValid (Upper op rd imm) = (rd < 32) × (imm < 1048576)
 IsValid (Jal rd offset) = (rd < 32) × IsEvenWithin 1048576 offset
-IsValid (Jalr rd rs1 imm) = (rd < 32) × (rs1 < 32) × IsWithin 2048 imm
+IsValid (Jalr rd rs1 imm) = (rd < 32) × (rs1 < 32) × IsInRange 2048 imm
 IsValid (Branch op rs1 rs2 offset) =
     (rs1 < 32) × (rs2 < 32) × IsEvenWithin 4096 offset
-IsValid (Load op rd rs1 imm) = (rd < 32) × (rs1 < 32) × IsWithin 2048 imm
-IsValid (Store op rs1 rs2 imm) = (rs1 < 32) × (rs2 < 32) × IsWithin 2048 imm
-IsValid (Imm op rd rs1 imm) = (rd < 32) × (rs1 < 32) × IsWithin 2048 imm
+IsValid (Load op rd rs1 imm) = (rd < 32) × (rs1 < 32) × IsInRange 2048 imm
+IsValid (Store op rs1 rs2 imm) = (rs1 < 32) × (rs2 < 32) × IsInRange 2048 imm
+IsValid (Imm op rd rs1 imm) = (rd < 32) × (rs1 < 32) × IsInRange 2048 imm
 IsValid (Shift op rd rs1 amount) = (rd < 32) × (rs1 < 32) × (amount < amount_bound op)
 IsValid (Reg op rd rs1 rs2) = (rd < 32) × (rs1 < 32) × (rs2 < 32)
 IsValid (Fence rd rs1 bits) = (rd < 32) × (rs1 < 32) × (bits < 4096)

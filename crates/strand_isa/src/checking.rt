@@ -1,11 +1,11 @@
 ghost use Rattle.std.specs.Prelude.{◌≡◌, ◌↔◌, ◌<◌, MatchResult, IsOk, None, Some};
 ghost use Rattle.strand_isa.specs.Word.{IsValid};
-ghost use Rattle.strand_isa.specs.Faults.{below, even_within, fault_of, first_of, within};
+ghost use Rattle.strand_isa.specs.Faults.{below, even_range_fault, fault_of, first_of, range_fault};
 ghost use Rattle.strand_isa.specs.declared.fault.Field.{Field};
 
-use crate::codes::amount_bound;
 use crate::fault::{Field, FieldFault};
 use crate::instr::Instr;
+use crate::ops::amount_bound;
 
 /// The fault of a field that has to be below `bound`.
 fn below(field: Field, bound: u32, n: u32) -> Option<FieldFault>
@@ -22,9 +22,9 @@ fn below(field: Field, bound: u32, n: u32) -> Option<FieldFault>
 }
 
 /// The fault of a field that has to be from `-half` to `half - 1`.
-fn within(field: Field, half: u32, z: i32) -> Option<FieldFault>
+fn range_fault(field: Field, half: u32, z: i32) -> Option<FieldFault>
     requires { half < 2000000 }
-    ensures { result ≡ within field half z }
+    ensures { result ≡ range_fault field half z }
 {
     if -(half as i32) <= z && z < half as i32 {
         None
@@ -37,9 +37,9 @@ fn within(field: Field, half: u32, z: i32) -> Option<FieldFault>
 }
 
 /// The fault of a field that has to be even, from `-half` to `half - 2`.
-fn even_within(field: Field, half: u32, z: i32) -> Option<FieldFault>
+fn even_range_fault(field: Field, half: u32, z: i32) -> Option<FieldFault>
     requires { half < 2000000 }
-    ensures { result ≡ even_within field half z }
+    ensures { result ≡ even_range_fault field half z }
 {
     if -(half as i32) <= z && z < half as i32 && z % 2 == 0 {
         None
@@ -86,11 +86,11 @@ fn fault(i: &Instr) -> Option<FieldFault>
         }
         Instr::Jal { rd, offset } => first(
             register(Field::Rd, rd),
-            even_within(Field::Offset, 1048576, offset),
+            even_range_fault(Field::Offset, 1048576, offset),
         ),
         Instr::Jalr { rd, rs1, imm } => first(
             registers(Field::Rd, rd, Field::Rs1, rs1),
-            within(Field::Imm, 2048, imm),
+            range_fault(Field::Imm, 2048, imm),
         ),
         Instr::Branch {
             op: _,
@@ -99,7 +99,7 @@ fn fault(i: &Instr) -> Option<FieldFault>
             offset,
         } => first(
             registers(Field::Rs1, rs1, Field::Rs2, rs2),
-            even_within(Field::Offset, 4096, offset),
+            even_range_fault(Field::Offset, 4096, offset),
         ),
         Instr::Load {
             op: _,
@@ -108,7 +108,7 @@ fn fault(i: &Instr) -> Option<FieldFault>
             imm,
         } => first(
             registers(Field::Rd, rd, Field::Rs1, rs1),
-            within(Field::Imm, 2048, imm),
+            range_fault(Field::Imm, 2048, imm),
         ),
         Instr::Store {
             op: _,
@@ -117,7 +117,7 @@ fn fault(i: &Instr) -> Option<FieldFault>
             imm,
         } => first(
             registers(Field::Rs1, rs1, Field::Rs2, rs2),
-            within(Field::Imm, 2048, imm),
+            range_fault(Field::Imm, 2048, imm),
         ),
         Instr::Imm {
             op: _,
@@ -126,7 +126,7 @@ fn fault(i: &Instr) -> Option<FieldFault>
             imm,
         } => first(
             registers(Field::Rd, rd, Field::Rs1, rs1),
-            within(Field::Imm, 2048, imm),
+            range_fault(Field::Imm, 2048, imm),
         ),
         Instr::Shift {
             op,

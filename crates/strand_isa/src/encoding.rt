@@ -1,17 +1,16 @@
 ghost use Rattle.std.specs.Prelude.{◌≡◌, ◌+◌, ◌*◌, ◌/◌, ◌%◌, ◌<◌, Some};
 ghost use Rattle.strand_isa.specs.Decode.{instr_of};
-ghost use Rattle.strand_isa.specs.Word.{IsValid, IsWithin, b_form, field_of, i_form, j_form, s_form, word_of};
+ghost use Rattle.strand_isa.specs.Ops.{AreSmallCodes};
+ghost use Rattle.strand_isa.specs.Word.{IsValid, IsInRange, b_form, field_of, i_form, j_form, s_form, word_of};
 
-use crate::codes::{
-    branch_funct3, imm_funct3, imm_opcode, load_funct3, reg_funct3, reg_funct7, reg_opcode,
-    shift_funct3, shift_funct6, shift_opcode, store_funct3, upper_opcode,
-};
 use crate::instr::Instr;
+use crate::opcodes::{JAL, JALR, MISC_MEM};
+use crate::ops::{Codes, branch_row, imm_row, load_row, reg_row, shift_row, store_row, upper_row};
 
 /// A signed number as a field of values below `2 * half`.
 fn field(half: u32, z: i32) -> u32
     requires half { half < 2000000 }
-    requires within { IsWithin half z }
+    requires within { IsInRange half z }
     ensures field { result ≡ field_of half z }
     ensures small { result < 2 * half }
 {
@@ -32,6 +31,17 @@ fn i_form(opcode: u32, rd: u8, funct3: u32, rs1: u8, imm: u32) -> u32
     ensures { result ≡ i_form opcode rd funct3 rs1 imm }
 {
     opcode + u32::from(rd) * 128 + funct3 * 4096 + u32::from(rs1) * 32768 + imm * 1048576
+}
+
+/// The I form with the opcode and the funct3 of an operation.
+fn operation(codes: Codes, rd: u8, rs1: u8, imm: u32) -> u32
+    requires codes { AreSmallCodes 128 codes }
+    requires rd { rd < 32 }
+    requires rs1 { rs1 < 32 }
+    requires imm { imm < 4096 }
+    ensures { result ≡ i_form codes.opcode rd codes.funct3 rs1 imm }
+{
+    i_form(codes.opcode, rd, codes.funct3, rs1, imm)
 }
 
 /// The S form: opcode, funct3, rs1, rs2 and a split field of twelve bits.
@@ -91,52 +101,38 @@ fn placed(i: &Instr) -> u32
     ensures { result ≡ word_of i.now }
 {
     match *i {
-        Instr::Upper { op, rd, imm } => upper_opcode(op) + u32::from(rd) * 128 + imm * 4096,
-        Instr::Jal { rd, offset } => j_form(0b1101111, rd, field(1048576, offset)),
-        Instr::Jalr { rd, rs1, imm } => i_form(0b1100111, rd, 0, rs1, field(2048, imm)),
+        Instr::Upper { op, rd, imm } => upper_row(op).1.opcode + u32::from(rd) * 128 + imm * 4096,
+        Instr::Jal { rd, offset } => j_form(JAL, rd, field(1048576, offset)),
+        Instr::Jalr { rd, rs1, imm } => i_form(JALR, rd, 0, rs1, field(2048, imm)),
         Instr::Branch {
             op,
             rs1,
             rs2,
             offset,
-        } => { b_form(0b1100011, branch_funct3(op), rs1, rs2, field(4096, offset)) }
-        Instr::Load { op, rd, rs1, imm } => i_form(
-            0b0000011,
-            rd,
-            load_funct3(op),
-            rs1,
-            field(2048, imm),
-        ),
+        } => {
+            let codes = branch_row(op).1;
+            b_form(codes.opcode, codes.funct3, rs1, rs2, field(4096, offset))
+        }
+        Instr::Load { op, rd, rs1, imm } => operation(load_row(op).1, rd, rs1, field(2048, imm)),
         Instr::Store { op, rs1, rs2, imm } => {
-            s_form(0b0100011, store_funct3(op), rs1, rs2, field(2048, imm))
+            let codes = store_row(op).1;
+            s_form(codes.opcode, codes.funct3, rs1, rs2, field(2048, imm))
         }
-        Instr::Imm { op, rd, rs1, imm } => {
-            i_form(imm_opcode(op), rd, imm_funct3(op), rs1, field(2048, imm))
-        }
+        Instr::Imm { op, rd, rs1, imm } => operation(imm_row(op).1, rd, rs1, field(2048, imm)),
         Instr::Shift {
             op,
             rd,
             rs1,
             amount,
         } => {
-            i_form(
-                shift_opcode(op),
-                rd,
-                shift_funct3(op),
-                rs1,
-                u32::from(amount) + shift_funct6(op) * 64,
-            )
+            let codes = shift_row(op).1;
+            operation(codes, rd, rs1, u32::from(amount) + codes.top * 64)
         }
         Instr::Reg { op, rd, rs1, rs2 } => {
-            i_form(
-                reg_opcode(op),
-                rd,
-                reg_funct3(op),
-                rs1,
-                u32::from(rs2) + reg_funct7(op) * 32,
-            )
+            let codes = reg_row(op).1;
+            operation(codes, rd, rs1, u32::from(rs2) + codes.top * 32)
         }
-        Instr::Fence { rd, rs1, bits } => i_form(0b0001111, rd, 0, rs1, u32::from(bits)),
+        Instr::Fence { rd, rs1, bits } => i_form(MISC_MEM, rd, 0, rs1, u32::from(bits)),
         Instr::Ecall => 0x00000073,
         Instr::Ebreak => 0x00100073,
         Instr::PersistBarrier => 0x0000000b,

@@ -5,16 +5,21 @@
 #![tactic(auto)]
 
 mod checking;
-mod codes;
 mod decoding;
 mod encoding;
 mod fault;
+mod finding;
 mod instr;
-mod names;
+mod opcodes;
+mod ops;
 mod printing;
 
 pub use decoding::decode;
 pub use encoding::encode;
 pub use fault::{Field, FieldFault};
-pub use instr::{BranchOp, ImmOp, Instr, LoadOp, RegOp, ShiftOp, StoreOp, UpperOp};
+pub use finding::{
+    branch_named, imm_named, load_named, reg_named, shift_named, store_named, upper_named,
+};
+pub use instr::Instr;
+pub use ops::{BranchOp, ImmOp, LoadOp, RegOp, ShiftOp, StoreOp, UpperOp, amount_bound};
 pub use printing::print_instr;

@@ -6,9 +6,7 @@ ghost use Rattle.strand_isa.specs.Word.{IsValid, word_of};
 
 use crate::encoding::encode;
 use crate::instr::Instr;
-use crate::names::{
-    branch_name, imm_name, load_name, reg_name, shift_name, store_name, upper_name,
-};
+use crate::ops::{branch_row, imm_row, load_row, reg_row, shift_row, store_row, upper_row};
 use itoa::Buffer;
 use strand_base::{OutOfMemory, hex_digits, print_decimal, put};
 
@@ -185,7 +183,7 @@ pub fn print_instr(i: &Instr, into: &mut Vec<u8>) -> Result<bool, OutOfMemory>
 {
     match *i {
         Instr::Upper { op, rd, imm } => {
-            print_two(into, upper_name(op), Part::Register(rd), Part::Upper(imm))
+            print_two(into, upper_row(op).0, Part::Register(rd), Part::Upper(imm))
         }
         Instr::Jal { rd, offset } => {
             print_two(into, "jal", Part::Register(rd), Part::Number(offset))
@@ -200,12 +198,12 @@ pub fn print_instr(i: &Instr, into: &mut Vec<u8>) -> Result<bool, OutOfMemory>
             offset,
         } => {
             let (a, b) = (Part::Register(rs1), Part::Register(rs2));
-            print_three(into, branch_name(op), a, b, Part::Number(offset))
+            print_three(into, branch_row(op).0, a, b, Part::Number(offset))
         }
         Instr::Load { op, rd, rs1, imm } => {
             print_two(
                 into,
-                load_name(op),
+                load_row(op).0,
                 Part::Register(rd),
                 Part::Memory(imm, rs1),
             )
@@ -213,14 +211,14 @@ pub fn print_instr(i: &Instr, into: &mut Vec<u8>) -> Result<bool, OutOfMemory>
         Instr::Store { op, rs1, rs2, imm } => {
             print_two(
                 into,
-                store_name(op),
+                store_row(op).0,
                 Part::Register(rs2),
                 Part::Memory(imm, rs1),
             )
         }
         Instr::Imm { op, rd, rs1, imm } => {
             let (a, b) = (Part::Register(rd), Part::Register(rs1));
-            print_three(into, imm_name(op), a, b, Part::Number(imm))
+            print_three(into, imm_row(op).0, a, b, Part::Number(imm))
         }
         Instr::Shift {
             op,
@@ -229,11 +227,11 @@ pub fn print_instr(i: &Instr, into: &mut Vec<u8>) -> Result<bool, OutOfMemory>
             amount,
         } => {
             let (a, b) = (Part::Register(rd), Part::Register(rs1));
-            print_three(into, shift_name(op), a, b, Part::Number(i32::from(amount)))
+            print_three(into, shift_row(op).0, a, b, Part::Number(i32::from(amount)))
         }
         Instr::Reg { op, rd, rs1, rs2 } => {
             let (a, b) = (Part::Register(rd), Part::Register(rs1));
-            print_three(into, reg_name(op), a, b, Part::Register(rs2))
+            print_three(into, reg_row(op).0, a, b, Part::Register(rs2))
         }
         Instr::Fence { .. } => print_fence(into, i),
         Instr::Ecall => print_word(into, "ecall"),

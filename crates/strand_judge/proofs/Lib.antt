@@ -1,7 +1,2 @@
-pub mod Judged
-pub mod LeastSet
-pub mod Gathering
-pub mod Numbered
-pub mod Pictured
-pub mod Ruled
-pub mod Within
+pub mod Least
+pub mod Verdicts

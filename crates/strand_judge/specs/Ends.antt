@@ -2,11 +2,11 @@
 use Rattle.std.specs.Prelude.{◌≡◌, ℕ, ◌<◌, ◌⊎◌, Bool, true, false, ◌==◌, List, Option, Some, None, length, slice_get, slice_index}
 use Rattle.strand_inputs.specs.declared.mode.Mode.{Mode}
 use Rattle.strand_events.specs.declared.event.Event.{Event}
-use Rattle.strand_events.specs.Order.{held}
+use Rattle.strand_events.specs.Order.{set_of}
 use Rattle.strand_order.specs.declared.edge.Edge.{Edge}
 use Rattle.strand_order.specs.Graph.{is_edge}
 use Rattle.strand_order.specs.Edges.{edges_of}
-use Rattle.strand_order.specs.Marks.{since_below}
+use Rattle.strand_order.specs.Lasts.{since_below}
 use Rattle.strand_judge.specs.Worklist.{IsListed, Grows}
 
 abbrev pub leads_in : ℕ → Option Edge → Bool
@@ -26,5 +26,5 @@ pub record AreEnds (mode : Mode) (t : List Event) (n : ℕ) (ends : List ℕ) : 
 pub record IsFollowed (mode : Mode) (t : List Event) (j : ℕ) (marks : List Bool) (list : List ℕ) (marks' : List Bool) (list' : List ℕ) : Type 0 where
   pub listed : IsListed (length t) marks' list'
   pub grows : Grows (length t) marks list marks' list'
-  pub only : (i : ℕ) → held marks' i ≡ true → (held marks i ≡ true) ⊎ (is_edge mode t i j ≡ true)
-  pub all : (i : ℕ) → is_edge mode t i j ≡ true → held marks' i ≡ true
+  pub only : (i : ℕ) → set_of marks' i ≡ true → (set_of marks i ≡ true) ⊎ (is_edge mode t i j ≡ true)
+  pub all : (i : ℕ) → is_edge mode t i j ≡ true → set_of marks' i ≡ true

@@ -37,8 +37,8 @@ pub record IsSettled (mode : Mode) (t : List Event) (crash : Crash) (set : Set) 
   pub settled : (word : ℕ) → crash.has word ≡ true → Agrees t crash set word ⊎ ((p : ℕ) → Offers t crash word p → set p ≡ true)
 
 -- each persist of the one set is in the other
-abbrev pub IsWithin : List Event → Set → Set → Type 0
-IsWithin t set other = (p : ℕ) → event_is is_persist t p ≡ true → set p ≡ true → other p ≡ true
+abbrev pub IsSubset : List Event → Set → Set → Type 0
+IsSubset t set other = (p : ℕ) → event_is is_persist t p ≡ true → set p ≡ true → other p ≡ true
 
 -- the persists that are in each of two sets
 abbrev pub both : Set → Set → Set
@@ -50,9 +50,9 @@ all_persists = λ p. true
 -- a judged set that is within each judged set
 pub record IsLeastJudged (mode : Mode) (t : List Event) (crash : Crash) (set : Set) : Type 0 where
   pub judged : IsJudged mode t crash set
-  pub least : (other : Set) → IsJudged mode t crash other → IsWithin t set other
+  pub least : (other : Set) → IsJudged mode t crash other → IsSubset t set other
 
 -- a settled set that is within each settled set
 pub record IsLeastSettled (mode : Mode) (t : List Event) (crash : Crash) (set : Set) : Type 0 where
   pub settled : IsSettled mode t crash set
-  pub least : (other : Set) → IsSettled mode t crash other → IsWithin t set other
+  pub least : (other : Set) → IsSettled mode t crash other → IsSubset t set other

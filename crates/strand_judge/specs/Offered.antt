@@ -1,6 +1,6 @@
 -- The persists that have the crash image's value, and what a settled set holds because of them.
 use Rattle.std.specs.Prelude.{◌≡◌, ℕ, zero, suc, ◌+◌, ◌<◌, ◌≤◌, true, ◌&&◌, ◌==◌, List, length, slice_index, slice_set, if◌then◌else◌}
-use Rattle.strand_base.specs.Places.{address_of, place_of}
+use Rattle.strand_base.specs.Places.{address_of, persistent_place}
 use Rattle.strand_inputs.specs.declared.mode.Mode.{Mode}
 use Rattle.strand_events.specs.declared.event.Event.{Event}
 use Rattle.strand_events.specs.Trace.{is_persist, word_of, value_of, word_at, value_at, event_is}
@@ -28,15 +28,15 @@ pub record IsForced (t : List Event) (crash : Crash) (word q : ℕ) : Type 0 whe
 
 -- the next persist with the found value, once event k is noted
 abbrev pub nexts_after : Event → ℕ → List ℕ → List ℕ → List ℕ
-nexts_after e k firsts nexts = if is_persist e then slice_set nexts k (slice_index firsts (place_of (word_of e))) else nexts
+nexts_after e k firsts nexts = if is_persist e then slice_set nexts k (slice_index firsts (persistent_place (word_of e))) else nexts
 
 -- the first persist with the found value
 abbrev pub firsts_after : Event → ℕ → List ℕ → List ℕ → List ℕ
-firsts_after e k found firsts = if is_persist e && (value_of e == slice_index found (place_of (word_of e))) then slice_set firsts (place_of (word_of e)) (k + 1) else firsts
+firsts_after e k found firsts = if is_persist e && (value_of e == slice_index found (persistent_place (word_of e))) then slice_set firsts (persistent_place (word_of e)) (k + 1) else firsts
 
 -- one more than the persist that event j asks for, where its value isn't the found one, or 0
 abbrev pub asked_of : Event → ℕ → List ℕ → List ℕ → ℕ
-asked_of e j found nexts = if is_persist e then (if value_of e == slice_index found (place_of (word_of e)) then 0 else slice_index nexts j) else 0
+asked_of e j found nexts = if is_persist e then (if value_of e == slice_index found (persistent_place (word_of e)) then 0 else slice_index nexts j) else 0
 
 -- what an event of the set brings with it: the earlier events of its edges, and the persist that it asks for
 pub record IsServed (mode : Mode) (t : List Event) (crash : Crash) (set : Set) (j : ℕ) : Type 0 where

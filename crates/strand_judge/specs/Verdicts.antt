@@ -55,4 +55,4 @@ pub record IsYesWithin (t : List Event) (set : Set) (verdict : Verdict) : Type 0
   pub list : List ℕ
   pub is : verdict ≡ Yes list
   pub numbers : (k : ℕ) → k < length list → slice_index list k < length (persists_of t)
-  pub held : (k : ℕ) → k < length list → set (slice_index (persists_of t) (slice_index list k)) ≡ true
+  pub members : (k : ℕ) → k < length list → set (slice_index (persists_of t) (slice_index list k)) ≡ true

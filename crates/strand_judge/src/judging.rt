@@ -1,6 +1,6 @@
 ghost use Rattle.std.specs.Prelude.{◌≡◌, ◌<◌, length, IfOk};
 ghost use Rattle.strand_events.specs.Trace.{persists_of};
-ghost use Rattle.strand_events.specs.Order.{held, is_joined};
+ghost use Rattle.strand_events.specs.Order.{set_of, is_joined};
 ghost use Rattle.strand_events.specs.Numbers.{numbers_of};
 ghost use Rattle.strand_judge.specs.Judged.{IsLeastSettled};
 ghost use Rattle.strand_events.specs.Places.{LieIn};
@@ -15,7 +15,7 @@ use crate::seeding::{mark_forced, mark_joined};
 use crate::serving::serve;
 use crate::verdict::Verdict;
 use std::alloc::Global;
-use strand_base::{Numbers, OutOfMemory};
+use strand_base::{Numbers, OutOfMemory, PERSISTENT_BASE};
 use strand_order::Graph;
 
 // Marks on the events, whose persists are the least settled set. `persists` are the event numbers of the
@@ -33,7 +33,7 @@ fn settled(
     requires same { length first.now ≡ length found.now }
     requires within { LieIn graph.now.events (length found.now) }
     ensures least { IfOk result (λ marks.
-        IsLeastSettled graph.now.mode graph.now.events (crash_of first.now found.now) (held marks.items)) }
+        IsLeastSettled graph.now.mode graph.now.events (crash_of first.now found.now) (set_of marks.items)) }
     ensures long { IfOk result (λ marks. length marks.items ≡ length graph.now.events) }
 {
     let events = graph.events();
@@ -66,7 +66,7 @@ fn verdict(
     requires marks { length marks.now ≡ length graph.now.events }
     requires same { length first.now ≡ length found.now }
     requires within { LieIn graph.now.events (length found.now) }
-    requires least { IsLeastSettled graph.now.mode graph.now.events (crash_of first.now found.now) (held marks.now) }
+    requires least { IsLeastSettled graph.now.mode graph.now.events (crash_of first.now found.now) (set_of marks.now) }
     ensures yes { IfOk result (SaysYes graph.now.mode graph.now.events (crash_of first.now found.now)) }
     ensures no { IfOk result (SaysNo graph.now.mode graph.now.events (crash_of first.now found.now)) }
     ensures word { IfOk result (NamesWord graph.now.mode graph.now.events (crash_of first.now found.now)) }
@@ -75,7 +75,7 @@ fn verdict(
     match first_difference(&image, found) {
         None => Ok(Verdict::Yes(numbers_of(alloc, persists, marks)?)),
         Some(place) => {
-            let word = 0x4000_0000 + 8 * place as u64;
+            let word = PERSISTENT_BASE + 8 * place as u64;
             let rank = rank(graph.events(), marks, word);
             Ok(Verdict::No { word, rank })
         }

@@ -1,7 +1,7 @@
 // The marked events, and the edges to an event.
 ghost use Rattle.std.specs.Prelude.{◌≡◌, ℕ, ◌<◌, ◌≤◌, ◌++◌, [], ◌∷◌, true, length, slice_set, if◌then◌else◌, IfOk, OnOk};
-ghost use Rattle.strand_events.specs.Order.{held};
-ghost use Rattle.strand_order.specs.Marks.{since_below};
+ghost use Rattle.strand_events.specs.Order.{set_of};
+ghost use Rattle.strand_order.specs.Lasts.{since_below};
 ghost use Rattle.strand_order.specs.Edges.{edges_of};
 ghost use Rattle.strand_judge.specs.Worklist.{IsListed};
 ghost use Rattle.strand_judge.specs.Gathered.{IsMarkedMore};
@@ -16,7 +16,7 @@ pub(crate) fn mark(marks: &mut Vec<bool>, list: &mut Vec<u32>, x: u32) -> Result
     requires { x < length marks.old.items }
     ensures marks { OnOk result (marks.new.items ≡ slice_set marks.old.items x true) }
     ensures list { OnOk result (list.new.items
-        ≡ (if held marks.old.items x then list.old.items else list.old.items ++ x ∷ [])) }
+        ≡ (if set_of marks.old.items x then list.old.items else list.old.items ++ x ∷ [])) }
 {
     if !marks[x as usize] {
         list.push(x)?;

@@ -2,7 +2,7 @@
 ghost use Rattle.std.specs.Prelude.{◌≡◌, ℕ, ◌<◌, ◌^◌, length, slice_index, IfOk};
 ghost use Rattle.strand_base.specs.Counting.{count_below, list_below};
 ghost use Rattle.strand_events.specs.Trace.{persists_of};
-ghost use Rattle.strand_events.specs.Order.{held, sets_word};
+ghost use Rattle.strand_events.specs.Order.{set_of, sets_word};
 
 use std::alloc::Global;
 use strand_base::{Numbers, OutOfMemory};
@@ -31,7 +31,7 @@ pub(crate) fn numbers_of(
     requires small { length persists.now < 2 ^ 32 }
     requires within { (p : ℕ) → p < length persists.now → slice_index persists.now p < length marks.now }
     ensures { IfOk result (λ numbers. numbers
-        ≡ list_below (length persists.now) (λ p. held marks.now (slice_index persists.now p))) }
+        ≡ list_below (length persists.now) (λ p. set_of marks.now (slice_index persists.now p))) }
 {
     let mut numbers = Numbers::new(alloc);
     for p in 0..persists.len() {
@@ -46,7 +46,7 @@ pub(crate) fn numbers_of(
 fn sets_word(events: &[Event], marks: &[bool], word: u64, k: usize) -> bool
     requires k { k < length events.now }
     requires marks { length marks.now ≡ length events.now }
-    ensures { result ≡ sets_word events.now (held marks.now) word k }
+    ensures { result ≡ sets_word events.now (set_of marks.now) word k }
 {
     events[k].is_persist() && marks[k] && events[k].word() == word
 }
@@ -55,7 +55,7 @@ fn sets_word(events: &[Event], marks: &[bool], word: u64, k: usize) -> bool
 pub(crate) fn rank(events: &[Event], marks: &[bool], word: u64) -> u32
     requires small { length events.now < 2 ^ 32 }
     requires marks { length marks.now ≡ length events.now }
-    ensures { result ≡ count_below (length events.now) (sets_word events.now (held marks.now) word) }
+    ensures { result ≡ count_below (length events.now) (sets_word events.now (set_of marks.now) word) }
 {
     let mut count: u32 = 0;
     for k in 0..events.len() {

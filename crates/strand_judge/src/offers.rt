@@ -2,12 +2,12 @@
 ghost use Rattle.std.specs.Prelude.{◌≡◌, ◌+◌, ◌<◌, ◌^◌, ◌==◌, true, List, ℕ, length, IfOk};
 ghost use Rattle.strand_events.specs.declared.event.Event.{Event};
 ghost use Rattle.strand_events.specs.Trace.{is_persist, word_of};
-ghost use Rattle.strand_base.specs.Places.{place_of};
+ghost use Rattle.strand_base.specs.Places.{persistent_place};
 ghost use Rattle.strand_events.specs.Places.{LieIn};
 ghost use Rattle.strand_judge.specs.Words.{crash_of};
 ghost use Rattle.strand_judge.specs.Offered.{nexts_after, firsts_after, asked_of, AreOffered};
 
-use crate::images::place_of;
+use crate::images::persistent_place;
 use std::alloc::Global;
 use strand_base::OutOfMemory;
 use strand_events::Event;
@@ -22,7 +22,7 @@ pub(crate) struct Offered {
 
 // Notes event k.
 fn note(offered: &mut Offered, e: Event, k: usize, found: &[u64])
-    requires place { is_persist e ≡ true → place_of (word_of e) < length found.now }
+    requires place { is_persist e ≡ true → persistent_place (word_of e) < length found.now }
     requires firsts { length offered.old.firsts.items ≡ length found.now }
     requires nexts { k < length offered.old.nexts.items }
     requires small { k + 1 < 2 ^ 32 }
@@ -30,7 +30,7 @@ fn note(offered: &mut Offered, e: Event, k: usize, found: &[u64])
     ensures firsts { offered.new.firsts.items ≡ firsts_after e k found.now offered.old.firsts.items }
 {
     if e.is_persist() {
-        let place = place_of(e.word());
+        let place = persistent_place(e.word());
         offered.nexts[k] = offered.firsts[place];
         if e.value() == found[place] {
             offered.firsts[place] = k as u32 + 1;
@@ -59,12 +59,12 @@ pub(crate) fn gather(alloc: Global, events: &[Event], found: &[u64]) -> Result<O
 
 /// One more than the persist that event j, which is e, asks for, or 0.
 pub(crate) fn asked(offered: &Offered, e: Event, j: usize, found: &[u64]) -> u32
-    requires place { is_persist e ≡ true → place_of (word_of e) < length found.now }
+    requires place { is_persist e ≡ true → persistent_place (word_of e) < length found.now }
     requires nexts { j < length offered.now.nexts.items }
     ensures { result ≡ asked_of e j found.now offered.now.nexts.items }
 {
     if e.is_persist() {
-        if e.value() == found[place_of(e.word())] {
+        if e.value() == found[persistent_place(e.word())] {
             0
         } else {
             offered.nexts[j]

@@ -5,7 +5,7 @@ ghost use Rattle.strand_events.specs.Numbers.{numbers_of};
 ghost use Rattle.strand_events.specs.Places.{LieIn};
 
 use super::*;
-use crate::images::place_of;
+use crate::images::persistent_place;
 use crate::marking::persists_of;
 use std::alloc::Global;
 use std::test::*;
@@ -54,7 +54,7 @@ fn lie_in(events: &[Event], words: usize) -> bool
     for k in 0..events.len() {
         let event = events[k];
         if event.is_persist() {
-            let place = place_of(event.word());
+            let place = persistent_place(event.word());
             if place >= words || event.word() != A + 8 * place as u64 {
                 return false;
             }

@@ -1,4 +1,4 @@
--- What an item is, by the event that it stands for.
+-- Serves clauses step and parts of Machine::step: what an item is, by the event that it stands for.
 use Rattle.std.proofs.Common.{◌≡◌, ℕ, true, false, refl}
 use Rattle.std.specs.Prelude.{slice_get, Some, None}
 use Rattle.std.specs.declared.option.Option.{Option}
@@ -9,11 +9,11 @@ use Rattle.strand_events.specs.declared.event.Event.{Event}
 use Rattle.std.specs.Prelude.{List}
 use Rattle.strand_events.specs.Trace.{passes, is_persist, is_barrier, is_new_strand, word_at, value_at, event_is, epoch}
 use Rattle.strand_rules.specs.Cycle.{State, is_item}
-use Rattle.strand_rules.proofs.Begun.{begins_none}
+use Rattle.strand_rules.proofs.Buffers.Begin.{begins_none}
 use Rattle.strand_queue.specs.declared.item.Item.TheVariants.{Persist, Barrier, NewStrand}
 use Rattle.strand_machine.specs.Lists.{persist_number}
 use Rattle.strand_machine.specs.Stand.{item_of}
-use Rattle.strand_machine.proofs.Growth.{barrier_none, new_strand_item}
+use Rattle.strand_machine.proofs.Stand.Counts.{barrier_none, new_strand_item}
 
 pub item_persist : (g : Settings) (s : State) (k : ℕ) → event_is is_persist s.now.trace k ≡ true
     → item_of g s k ≡ Persist (persist_number s.now.trace k) (word_at s.now.trace k) (value_at s.now.trace k) (epoch g.mode s.now.trace k)

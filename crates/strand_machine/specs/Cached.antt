@@ -6,14 +6,14 @@ use Rattle.strand_events.specs.declared.event.Event.{Event}
 use Rattle.strand_events.specs.Trace.{is_access, is_store, core_of, word_of}
 use Rattle.strand_rules.specs.Cycle.{State}
 use Rattle.strand_cache.specs.declared.counts.Counts.{Counts}
-use Rattle.strand_cache.specs.Accesses.{LineAccess, line_of}
+use Rattle.strand_cache.specs.Accesses.{LineAccess, cache_line_of}
 use Rattle.strand_cache.specs.Hits.{shape_of}
 use Rattle.strand_cache.specs.Totals.{hits_of, misses_of}
 use Rattle.strand_cache.specs.Seen.{Seen, CachesStand, shape_seen}
 
 -- an access of the trace, as one to its word's line
 abbrev pub line_access : Event → LineAccess
-line_access e = record { core = core_of e; line = line_of (word_of e); stores = is_store e }
+line_access e = record { core = core_of e; line = cache_line_of (word_of e); stores = is_store e }
 
 -- the accesses of a trace
 abbrev pub accesses_of : List Event → List LineAccess

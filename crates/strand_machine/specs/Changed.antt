@@ -1,6 +1,7 @@
 -- What the steps make of the parts.
 use Rattle.std.specs.Prelude.{◌≡◌, ℕ, ◌+◌, ◌-◌, ◌^◌, ◌<◌, ◌≤◌, Bool, true, false, List, [], ◌∷◌, ◌++◌, drop, length, map, replicate, slice_index, slice_index_or, slice_set, if◌then◌else◌, Some, None, MatchOption}
 use Rattle.std.specs.declared.option.Option.{Option}
+use Rattle.strand_base.specs.declared.limits.TheConstants.{CORE_ROOM}
 use Rattle.strand_inputs.specs.Settings.{Settings}
 use Rattle.strand_exec.specs.Memory.{Memory}
 use Rattle.strand_exec.specs.declared.planned.Plan.{Plan}
@@ -8,7 +9,7 @@ use Rattle.strand_exec.specs.declared.planned.Plan.TheVariants.{Load, Store}
 use Rattle.strand_inputs.specs.declared.conflict.Conflict.TheVariants.{Tag}
 use Rattle.strand_events.specs.declared.event.Event.{Event}
 use Rattle.strand_events.specs.Trace.{is_persist}
-use Rattle.strand_events.specs.Order.{held}
+use Rattle.strand_events.specs.Order.{set_of}
 use Rattle.strand_events.specs.Prefixes.{leading}
 use Rattle.strand_events.specs.Vectors.{waits_after}
 use Rattle.strand_queue.specs.declared.item.Item.{Item}
@@ -18,7 +19,7 @@ use Rattle.strand_buffer.specs.Buffers.{Buffers, accepted, begun, can_begin, emp
 use Rattle.strand_control.specs.declared.request.Request.{Request}
 use Rattle.strand_tags.specs.Access.{Noted}
 use Rattle.strand_tags.specs.TagsSeen.{TagsSeen, StandFor}
-use Rattle.strand_tags.specs.Entries.{wait_entry, no_waits}
+use Rattle.strand_tags.specs.WaitEntries.{wait_entry, no_waits}
 use Rattle.strand_cache.specs.declared.change.Change.{Change}
 use Rattle.strand_cache.specs.declared.change.Change.TheVariants.{Read, Merge}
 use Rattle.strand_cache.specs.Changes.{memory_after}
@@ -44,12 +45,12 @@ start_parts g count memory room tags = record {
 
 -- how many of the persists with these numbers are durable before the first that isn't
 abbrev pub durable_first : List Bool → List ℕ → ℕ
-durable_first durable numbers = leading (map (held durable) numbers)
+durable_first durable numbers = leading (map (set_of durable) numbers)
 
 -- there is a number, and its mark is set
 abbrev pub is_marked : List Bool → Option ℕ → Bool
 is_marked marks None = false
-is_marked marks (Some number) = held marks number
+is_marked marks (Some number) = set_of marks number
 
 -- one persist more was made, or one strand more was begun
 abbrev pub tallied : Tally → Item → Tally
@@ -90,7 +91,7 @@ pub record Notes (old new : TagsSeen) (n : Noted) : Type 0 where
 pub record KeepsWait (g : Settings) (old new : PartsSeen) (n : ℕ) (e : Event) (wait : List ℕ) : Type 0 where
   pub waiting : new.waiting ≡ record old.waiting { waits = if is_persist e then old.waiting.waits ++ wait ∷ [] else old.waiting.waits }
   pub tallies : new.tallies ≡ slice_set old.tallies n (record (tally_at old n) { waits = (tally_at new n).waits })
-  pub own : g.conflict ≡ Tag → (c : ℕ) → c < 8 → wait_entry (tally_at new n).waits c ≡ waits_after g.mode e (slice_index wait c) (wait_entry (tally_at old n).waits c)
+  pub own : g.conflict ≡ Tag → (c : ℕ) → c < CORE_ROOM → wait_entry (tally_at new n).waits c ≡ waits_after g.mode e (slice_index wait c) (wait_entry (tally_at old n).waits c)
 
 -- what an access of core n to a word makes of the caches
 pub record IsCached (old new : Seen) (n word : ℕ) (change : Change) : Type 0 where

@@ -12,7 +12,7 @@ abbrev pub seen : Inside → RingMachine
 seen m = record { machine = with_memory m.parts.cache.memory m.pipeline; parts = m.parts }
 
 -- The parts stand for the state, which a run reaches. There is room for as many persists of a core, and for as many waits, as there may be steps, and the memory has the regions of the program.
-pub record IsHeld (m : Inside) : Type 0 where
+pub record IsKeptRingMachine (m : Inside) : Type 0 where
   pub stand : PartsStand (seen m)
   pub rooms : (n : ℕ) → n < length m.pipeline.state.now.cores → (tally_at m.parts n).room ≡ m.pipeline.steps
   pub wait_room : m.parts.waiting.room ≡ m.pipeline.steps

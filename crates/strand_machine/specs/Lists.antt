@@ -4,7 +4,7 @@ use Rattle.strand_base.specs.Counting.{count_below, list_below}
 use Rattle.strand_inputs.specs.Settings.{Settings}
 use Rattle.strand_events.specs.declared.event.Event.{Event}
 use Rattle.strand_events.specs.Trace.{is_persist, is_new_strand, word_at, value_at, event_is, strand_number, epoch}
-use Rattle.strand_events.specs.Order.{held}
+use Rattle.strand_events.specs.Order.{set_of}
 use Rattle.strand_rules.specs.Cycle.{State, is_dispatched, is_accepted, buffer_of}
 use Rattle.strand_buffer.specs.declared.entry.Entry.{Entry}
 use Rattle.strand_buffer.specs.declared.entry.Stage.{Stage}
@@ -22,11 +22,11 @@ is_of_buffer g s n b p = is_accepted g s n p && (buffer_of g (strand_number g.mo
 
 -- these persists in trace order, from the oldest that isn't durable on
 abbrev pub listed : Settings → State → ℕ → ℕ → List ℕ
-listed g s n b = from_open (held s.durable) (list_below (length s.now.trace) (is_of_buffer g s n b))
+listed g s n b = from_open (set_of s.durable) (list_below (length s.now.trace) (is_of_buffer g s n b))
 
 -- how far a dispatched persist has come: it is durable, buffered or else in flight
 abbrev pub stage_of : State → ℕ → Stage
-stage_of s p = if held s.durable p then Released else if held s.buffered p then Buffered else Sent
+stage_of s p = if set_of s.durable p then Released else if set_of s.buffered p then Buffered else Sent
 
 abbrev pub entry_of : Settings → State → ℕ → Entry
 entry_of g s p = record { number = persist_number s.now.trace p; word = word_at s.now.trace p; value = value_at s.now.trace p; epoch = epoch g.mode s.now.trace p; wait = noted_wait g.conflict g.mode s.now.trace p; stage = stage_of s p }

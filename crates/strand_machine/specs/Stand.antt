@@ -8,7 +8,7 @@ use Rattle.strand_inputs.specs.Settings.{Settings}
 use Rattle.strand_exec.specs.Core.{Extents}
 use Rattle.strand_events.specs.declared.event.Event.{Event}
 use Rattle.strand_events.specs.Trace.{is_access, is_persist, is_barrier, persists_of, core_at, word_at, value_at, event_is, core_event_is, strand_number, epoch}
-use Rattle.strand_events.specs.Order.{held}
+use Rattle.strand_events.specs.Order.{set_of}
 use Rattle.strand_events.specs.Prefixes.{core_persists, durable_prefix, made_below}
 use Rattle.strand_events.specs.Waits.{each_core}
 use Rattle.strand_rules.specs.Cycle.{State, is_item, items, gone, is_accepted, buffer_of}
@@ -21,7 +21,7 @@ use Rattle.strand_control.specs.declared.request.Request.{Request}
 use Rattle.strand_control.specs.Flight.{Flight}
 use Rattle.strand_tags.specs.TagsSeen.{TagsSeen, StandFor}
 use Rattle.strand_tags.specs.Traces.{noted_accesses, noted_wait}
-use Rattle.strand_tags.specs.Entries.{KeepsWaits, no_waits}
+use Rattle.strand_tags.specs.WaitEntries.{KeepsWaits, no_waits}
 use Rattle.strand_tags.specs.declared.core_waits.CoreWaits.{CoreWaits}
 use Rattle.strand_cache.specs.Seen.{Seen}
 use Rattle.strand_machine.specs.Lists.{persist_number, entries, begun}
@@ -101,7 +101,7 @@ pub record Tally : Type 0 where
 -- what is counted of core n stands for the state
 pub record TallyStands (g : Settings) (s : State) (n : ℕ) (c : Tally) : Type 0 where
   pub numbers : c.numbers ≡ map (persist_number s.now.trace) (core_persists s.now.trace n)
-  pub first : c.first ≡ durable_prefix s.now.trace (held s.durable) n
+  pub first : c.first ≡ durable_prefix s.now.trace (set_of s.durable) n
   pub strand : c.strand ≡ next_strand g.mode s.now.trace n
   pub waits : g.conflict ≡ Tag → KeepsWaits g.mode s.now.trace n c.waits
 

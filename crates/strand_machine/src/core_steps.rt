@@ -6,7 +6,7 @@ ghost use Rattle.strand_inputs.specs.declared.step.Step.TheVariants.{Core};
 ghost use Rattle.strand_rules.specs.Visible.{event_of};
 ghost use Rattle.strand_rules.specs.Cycle.{core_after, made_turn, turn};
 ghost use Rattle.strand_rules.specs.declared.turn.Turn.TheVariants.{Done};
-ghost use Rattle.strand_rules.specs.Machine.{Runs, made_to, stepped};
+ghost use Rattle.strand_rules.specs.Machine.{NextEffect, made_to, stepped};
 ghost use Rattle.strand_machine.specs.Machine.{FitsCore, PartsStand};
 ghost use Rattle.strand_machine.specs.Stand.{newest_item};
 
@@ -34,7 +34,7 @@ impl Machine {
     fn retire(&mut self, n: u32, effect: Effect, plan: Plan, event: Option<Event>)
         requires room { self.old.machine.made < self.old.machine.steps }
         requires core { n < length self.old.machine.state.now.cores }
-        requires runs { Runs self.old.machine n effect }
+        requires runs { NextEffect self.old.machine n effect }
         requires plan { plan ≡ asked effect }
         requires placed { IsPlaced self.old.machine.program.sizes plan }
         requires event { event ≡ event_of n self.old.machine.state.now.memory plan }

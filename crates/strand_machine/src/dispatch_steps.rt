@@ -19,8 +19,8 @@ impl Machine {
         ensures { result ≡ turn self.now.machine.config self.now.machine.program
             self.now.machine.state (Dispatch n) }
     {
-        self.pipeline.keeps();
-        let buffers = self.parts.buffers(n);
+        self.keeps();
+        let buffers = self.buffers(n);
         match item {
             Item::Persist { .. } => done_or(buffers.room(), Cause::NoRoom),
             Item::Barrier => Turn::Done,
@@ -34,9 +34,9 @@ impl Machine {
         requires front { slice_get (queue_at self.now.parts n).items 0 ≡ Some item }
         ensures { FrontIs self.now.machine.config self.now.machine.state n result }
     {
-        self.pipeline.keeps();
+        self.keeps();
         match item {
-            Item::Persist { number, .. } => Some(self.pipeline.trace().persist_at(number)),
+            Item::Persist { number, .. } => Some(self.trace().persist_at(number)),
             Item::Barrier | Item::NewStrand => None,
         }
     }
@@ -68,7 +68,7 @@ impl Machine {
         ensures machine { self.new.machine ≡ stepped self.old.machine (Dispatch n) }
         ensures parts { PartsStand self.new }
     {
-        let Some(item) = self.parts.queue(n).front() else {
+        let Some(item) = self.queue(n).front() else {
             return self.bubble(Cause::NoItem);
         };
         let turn = self.item_turn(n, item);

@@ -1,4 +1,6 @@
 ghost use Rattle.std.specs.Prelude.{◌≡◌, ◌<◌, ◌≤◌, IfOk, Some, length, slice_get};
+ghost use Rattle.strand_base.specs.declared.limits.TheConstants.{MOST_STEPS, MOST_CORES};
+ghost use Rattle.strand_events.specs.Fits.{AllFit};
 ghost use Rattle.strand_events.specs.Order.{HoldsJoined, IsDownwardClosed};
 ghost use Rattle.strand_events.specs.Places.{LieIn};
 ghost use Rattle.strand_inputs.specs.Schedule.{IsBelow};
@@ -7,9 +9,9 @@ ghost use Rattle.strand_inputs.specs.declared.conflict.Conflict.TheVariants.{Tag
 ghost use Rattle.strand_rules.specs.declared.turn.Cause.TheVariants as causes;
 ghost use Rattle.strand_rules.specs.declared.turn.Turn.TheVariants.{Bubble};
 ghost use Rattle.strand_rules.specs.Cycle.{durable_set};
-ghost use Rattle.strand_rules.specs.Machine.{machine_at, made_to, durable_persists, SameSetup, StandsOn, Steps};
+ghost use Rattle.strand_rules.specs.Machine.{machine_at, made_to, durable_persists, SameSetup, StandsOn, StepLeaves};
 ghost use Rattle.strand_machine.specs.Cached.{CacheStands, cache_counts, core_counts};
-ghost use Rattle.strand_machine.specs.Machine.{PartsStand};
+ghost use Rattle.strand_machine.specs.Machine.{IsRingMachine, PartsStand};
 ghost use Rattle.strand_machine.specs.Stand.{BuffersStand, TagsStand, buffers_at, queue_at, queue_items, requests};
 ghost use Rattle.strand_modules.specs.Seen.{bank_seen};
 
@@ -47,11 +49,11 @@ impl Model for Machine {
 
     ghost Value = { RingMachine };
 
-    ghost use Rattle.strand_machine.specs.KeptMachine.{seen, IsHeld};
+    ghost use Rattle.strand_machine.specs.KeptMachine.{seen, IsKeptRingMachine};
 
     ghost view = { seen };
 
-    ghost invariant = { IsHeld };
+    ghost invariant = { IsKeptRingMachine };
 }
 
 impl Machine {
@@ -63,7 +65,7 @@ impl Machine {
         image: &Image,
         steps: u64,
     ) -> Result<Machine, OutOfMemory>
-        requires { steps ≤ 200000 }
+        requires { steps ≤ MOST_STEPS }
         ensures machine { IfOk result (λ m. m.machine ≡ machine_at config.now image.now steps) }
         ensures parts { IfOk result PartsStand }
     {
@@ -125,7 +127,7 @@ impl Machine {
     /// The cores.
     pub fn cores(&self) -> &[CoreState]
         ensures cores { result.now ≡ self.now.machine.state.now.cores }
-        ensures few { length result.now ≤ 4 }
+        ensures few { length result.now ≤ MOST_CORES }
     {
         self.pipeline.cores()
     }
@@ -210,6 +212,14 @@ impl Machine {
         self.parts.cache().all_counts()
     }
 
+    // What holds of every machine. A trace can have its events.
+    pub(crate) fn keeps(&self)
+        ensures holds { IsRingMachine self.now }
+        ensures fits { AllFit self.now.machine.state.now.trace }
+    {
+        self.pipeline.keeps();
+    }
+
     // A step that changes nothing but the count of steps.
     pub(crate) fn bubble(&mut self, cause: Cause) -> Turn
         requires { self.old.machine.made < self.old.machine.steps }
@@ -229,7 +239,7 @@ impl Machine {
         requires step { IsBelow (length self.old.machine.state.now.cores)
             self.old.machine.config.buffers step }
         requires bank { self.old.machine.program.sizes.persistent ≤ (bank_seen holds bank.old).size }
-        ensures step { Steps self.old.machine self.new.machine (bank_seen holds bank.old) (bank_seen holds bank.new) step result }
+        ensures step { StepLeaves self.old.machine self.new.machine (bank_seen holds bank.old) (bank_seen holds bank.new) step result }
         ensures tagged { self.old.machine.config.conflict ≡ Tag
             → result ≡ Bubble causes.Conflict → ⊥ }
         ensures setup { SameSetup self.old.machine self.new.machine (bank_seen holds bank.old) (bank_seen holds bank.new) }

@@ -1,5 +1,6 @@
 // The parts before the first step.
 ghost use Rattle.std.specs.Prelude.{◌≡◌, ◌≤◌, [], IfOk, length, replicate};
+ghost use Rattle.strand_base.specs.declared.limits.TheConstants.{MOST_QUEUE, MOST_BUFFERS, MOST_RING};
 ghost use Rattle.strand_buffer.specs.Buffers.{empty_buffers};
 ghost use Rattle.strand_cache.specs.Seen.{CachesStand, empty_caches};
 ghost use Rattle.strand_queue.specs.Queue.{queue};
@@ -73,7 +74,7 @@ fn fresh_cache(alloc: Global, config: Config, image: &Image) -> Result<Hierarchy
 // So many empty queues of a depth.
 fn fresh_queues(alloc: Global, count: u32, depth: u32) -> Result<Vec<PersistQueue>, OutOfMemory>
     requires some { 1 ≤ depth }
-    requires limit { depth ≤ 64 }
+    requires limit { depth ≤ MOST_QUEUE }
     ensures { IfOk result (λ queues. queues.items ≡ replicate count (queue [] depth)) }
 {
     let mut queues: Vec<PersistQueue> = Vec::with_capacity(alloc, count as usize)?;
@@ -91,9 +92,9 @@ fn fresh_buffers(
     ring: u32,
 ) -> Result<Vec<StrandBuffers>, OutOfMemory>
     requires some { 1 ≤ buffers }
-    requires few { buffers ≤ 8 }
+    requires few { buffers ≤ MOST_BUFFERS }
     requires places { 1 ≤ ring }
-    requires small { ring ≤ 64 }
+    requires small { ring ≤ MOST_RING }
     ensures { IfOk result (λ all. all.items ≡ replicate count (empty_buffers buffers ring)) }
 {
     let mut all: Vec<StrandBuffers> = Vec::with_capacity(alloc, count as usize)?;

@@ -1,4 +1,4 @@
-ghost use Rattle.std.specs.Prelude.{◌≡◌, ◌<◌, ◌≤◌, ◌^◌, ◌-◌, true, false, IfOk, IfSome, length, slice_index};
+ghost use Rattle.std.specs.Prelude.{◌≡◌, ◌<◌, ◌≤◌, ◌^◌, ◌-◌, true, false, IfSome, length, slice_index};
 ghost use Rattle.strand_buffer.specs.Buffers.{IsEligible, IsSent};
 ghost use Rattle.strand_control.specs.Flight.{LieInBank, Writes};
 ghost use Rattle.strand_events.specs.Trace.{is_access, is_persist, is_store, word_of};
@@ -16,6 +16,7 @@ ghost use Rattle.strand_modules.specs.Seen.{bank_seen};
 use crate::tally::CoreTally;
 use crate::waiting::Waiting;
 use std::marker::Model;
+use strand_base::CORE_ROOM;
 use strand_buffer::StrandBuffers;
 use strand_cache::{Change, Hierarchy};
 use strand_control::{Controller, Request, WriteTurn};
@@ -191,7 +192,7 @@ impl Parts {
     }
 
     // The same of each of eight cores.
-    pub fn prefixes(&self) -> [u32; 8]
+    pub fn prefixes(&self) -> [u32; CORE_ROOM]
         ensures { result ≡ prefixes self.now }
     {
         [
@@ -207,13 +208,13 @@ impl Parts {
     }
 
     // The wait that is kept of an item, where it is a persist.
-    fn wait_at(&self, item: Item) -> [u32; 8]
+    fn wait_at(&self, item: Item) -> [u32; CORE_ROOM]
         requires { HasWait self.now item }
         ensures { result ≡ wait_at self.now item }
     {
         match item {
             Item::Persist { number, .. } => self.waiting.at(number),
-            Item::Barrier | Item::NewStrand => [0; 8],
+            Item::Barrier | Item::NewStrand => [0; CORE_ROOM],
         }
     }
 
@@ -272,7 +273,7 @@ impl Parts {
 }
 
 // A core's buffers take an item that it dispatches, a persist with this wait.
-fn take(buffers: &mut StrandBuffers, item: Item, wait: [u32; 8])
+fn take(buffers: &mut StrandBuffers, item: Item, wait: [u32; CORE_ROOM])
     requires { CanTake buffers.old item }
     ensures { buffers.new ≡ taken buffers.old item wait }
 {

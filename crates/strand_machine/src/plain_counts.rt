@@ -1,12 +1,12 @@
 // The cache rule of docs/cache.md word for word, which looks back over all accesses.
-use strand_cache::Counts;
+use strand_cache::{Counts, LINE_BYTES};
 use strand_events::Event;
 use strand_inputs::Config;
 
 // The line of an access, where the event is one.
 fn line_of(event: Event) -> Option<u64> {
     if event.is_access() {
-        Some(event.word() / 64)
+        Some(event.word() / LINE_BYTES)
     } else {
         None
     }

@@ -13,6 +13,16 @@ use strand_control::Request;
 use strand_rules::{Cause, Turn};
 
 impl Machine {
+    // The eligible persist at place j of buffer b of core n, as its buffers hand it out.
+    fn eligible(&self, n: u32, b: u32, j: u32) -> Option<Slot>
+        requires core { n < length self.now.machine.state.now.cores }
+        requires buffer { b < self.now.machine.config.buffers }
+        ensures { result ≡ eligible_slot (buffers_at self.now.parts n) b j (prefixes self.now.parts) }
+    {
+        let durable = self.parts.prefixes();
+        self.parts.buffers(n).eligible(b, j, &durable)
+    }
+
     // The persist of this slot, by its event number: the eligible one at place j of buffer b of core n.
     fn persist_in(&self, n: u32, b: u32, j: u32, slot: Slot) -> usize
         requires core { n < length self.now.machine.state.now.cores }
@@ -20,8 +30,8 @@ impl Machine {
         requires slot { eligible_slot (buffers_at self.now.parts n) b j (prefixes self.now.parts) ≡ Some slot }
         ensures { SlotIs self.now n b j slot result }
     {
-        self.pipeline.keeps();
-        self.pipeline.trace().persist_at(slot.number)
+        self.keeps();
+        self.trace().persist_at(slot.number)
     }
 
     // Buffer b of core n sends persist p, which its buffers hand out as this slot.
@@ -54,12 +64,11 @@ impl Machine {
         ensures machine { self.new.machine ≡ stepped self.old.machine (Send n b j) }
         ensures parts { PartsStand self.new }
     {
-        self.pipeline.keeps();
-        let durable = self.parts.prefixes();
-        let Some(slot) = self.parts.buffers(n).eligible(b, j, &durable) else {
+        self.keeps();
+        let Some(slot) = self.eligible(n, b, j) else {
             return self.bubble(Cause::NoEntry);
         };
-        if !self.parts.control().room() {
+        if !self.control().room() {
             return self.bubble(Cause::FlightFull);
         }
         let p = self.persist_in(n, b, j, slot);

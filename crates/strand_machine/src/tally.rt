@@ -1,7 +1,8 @@
 ghost use Rattle.std.specs.Prelude.{◌≡◌, ◌<◌, ◌≤◌, ◌-◌, ◌^◌, ℕ, IfOk, length, slice_get, slice_index};
-ghost use Rattle.strand_events.specs.Order.{held};
+ghost use Rattle.strand_base.specs.declared.limits.TheConstants.{CORE_ROOM};
+ghost use Rattle.strand_events.specs.Order.{set_of};
 ghost use Rattle.strand_events.specs.Vectors.{waits_after};
-ghost use Rattle.strand_tags.specs.Entries.{wait_entry};
+ghost use Rattle.strand_tags.specs.WaitEntries.{wait_entry};
 ghost use Rattle.strand_machine.specs.Changed.{advanced, durable_first, empty_tally, is_marked, tallied};
 
 use std::alloc::Global;
@@ -83,7 +84,7 @@ impl CoreTally {
     // The core made an event with this wait.
     pub fn follow(&mut self, mode: Mode, event: Event, wait: &CountVector)
         requires { self.old.waits.made < 2 ^ 32 - 1 }
-        ensures own { (c : ℕ) → c < 8 → wait_entry self.new.waits c
+        ensures own { (c : ℕ) → c < CORE_ROOM → wait_entry self.new.waits c
             ≡ waits_after mode event (slice_index wait.now.counts c) (wait_entry self.old.waits c) }
         ensures others { self.new ≡ record self.old { waits = self.new.waits } }
     {
@@ -139,7 +140,7 @@ fn is_durable(numbers: &[u32], durable: &[bool], place: u32) -> bool
 
 // Whether a mark is there and set.
 fn is_set(marks: &[bool], place: u32) -> bool
-    ensures { result ≡ held marks.now place }
+    ensures { result ≡ set_of marks.now place }
 {
     (place as usize) < marks.len() && marks[place as usize]
 }

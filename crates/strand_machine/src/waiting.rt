@@ -2,12 +2,12 @@ ghost use Rattle.std.specs.Prelude.{◌≡◌, ◌<◌, ◌++◌, [], ◌∷◌,
 
 use std::alloc::Global;
 use std::marker::Model;
-use strand_base::OutOfMemory;
+use strand_base::{CORE_ROOM, OutOfMemory};
 
 // The waits of the persists, by the persists' numbers.
 #[derive(Drop)]
 pub(crate) struct Waiting {
-    waits: Vec<[u32; 8]>,
+    waits: Vec<[u32; CORE_ROOM]>,
     room: u32,
 }
 
@@ -36,7 +36,7 @@ impl Waiting {
     }
 
     // The next persist has this wait.
-    pub fn push(&mut self, wait: [u32; 8])
+    pub fn push(&mut self, wait: [u32; CORE_ROOM])
         requires { length self.old.waits < self.old.room }
         ensures { self.new ≡ record self.old { waits = self.old.waits ++ wait ∷ [] } }
     {
@@ -44,7 +44,7 @@ impl Waiting {
     }
 
     // The wait of the persist of this number.
-    pub fn at(&self, number: u32) -> [u32; 8]
+    pub fn at(&self, number: u32) -> [u32; CORE_ROOM]
         requires { number < length self.now.waits }
         ensures { result ≡ slice_index_or self.now.waits number [] }
     {

@@ -1,7 +1,7 @@
 // The steps of the controller.
-ghost use Rattle.std.specs.Prelude.{◌≡◌, ◌<◌, ◌≤◌, Some, slice_get};
+ghost use Rattle.std.specs.Prelude.{◌≡◌, ◌<◌, ◌≤◌};
 ghost use Rattle.strand_inputs.specs.declared.step.Step.TheVariants.{Write};
-ghost use Rattle.strand_rules.specs.Machine.{Steps};
+ghost use Rattle.strand_rules.specs.Machine.{StepLeaves};
 ghost use Rattle.strand_machine.specs.Machine.{PartsStand};
 ghost use Rattle.strand_modules.specs.Seen.{bank_seen};
 
@@ -15,7 +15,7 @@ impl Machine {
     pub(crate) fn step_write(&mut self, j: u32, bank: &mut ModuleBank) -> Turn
         requires room { self.old.machine.made < self.old.machine.steps }
         requires bank { self.old.machine.program.sizes.persistent ≤ (bank_seen holds bank.old).size }
-        ensures step { Steps self.old.machine self.new.machine (bank_seen holds bank.old) (bank_seen holds bank.new) (Write j) result }
+        ensures step { StepLeaves self.old.machine self.new.machine (bank_seen holds bank.old) (bank_seen holds bank.new) (Write j) result }
         ensures parts { PartsStand self.new }
     {
         self.pipeline.keeps();

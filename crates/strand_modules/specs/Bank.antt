@@ -5,7 +5,7 @@ use Rattle.std.specs.declared.option.Option.{Option}
 use Rattle.std.specs.declared.result.Result.{Result}
 use Rattle.strand_base.specs.ModuleSeen.{ModuleSeen, written}
 use Rattle.strand_base.specs.Counts.{Rose, counted, next}
-use Rattle.strand_modules.specs.Parts.{words_in, told_words}
+use Rattle.strand_modules.specs.ModuleWords.{words_in, told_words}
 use Rattle.strand_modules.specs.declared.refusals.Refusals.{Refusals}
 use Rattle.strand_modules.specs.declared.refusals.AtModule.{AtModule}
 use Rattle.strand_modules.specs.declared.accepted.Accepted.{Accepted}
@@ -42,10 +42,10 @@ abbrev pub nothing_refused : Refusals
 nothing_refused = record { fills = 0; stores = 0; reads = 0 }
 
 abbrev pub nothing_accepted : Accepted
-nothing_accepted = record { loads = 0; stores = 0 }
+nothing_accepted = record { reads = 0; stores = 0 }
 
-abbrev pub loads_accepted : ℕ → Accepted → Accepted
-loads_accepted more a = record a { loads = counted more a.loads }
+abbrev pub reads_accepted : ℕ → Accepted → Accepted
+reads_accepted more a = record a { reads = counted more a.reads }
 
 abbrev pub stores_accepted : ℕ → Accepted → Accepted
 stores_accepted more a = record a { stores = counted more a.stores }
@@ -89,7 +89,7 @@ pub record Loads (old new : BankSeen) (i : ℕ) (result : Result ℕ AtModule) :
   pub called : new.calls ≡ asked i old.calls
   pub quiet : OnOk result (new.faults ≡ old.faults)
   pub accepted : OnOk result (new.refused ≡ old.refused)
-  pub counted : OnOk result (new.accepted ≡ loads_accepted 1 old.accepted)
+  pub counted : OnOk result (new.accepted ≡ reads_accepted 1 old.accepted)
   pub refused : IfErr result (λ e. (e.«module» ≡ i % length old.faults) × Refuses read_refused old new e.«module»)
   pub uncounted : OnErr result (new.accepted ≡ old.accepted)
 

@@ -1,5 +1,5 @@
 -- The bank as contracts see it in this crate.
-use Rattle.std.specs.Prelude.{List, map}
+use Rattle.std.specs.Prelude.{map}
 use Rattle.std.specs.declared.alloc.Global.{Global}
 use Rattle.std.specs.declared.dyn_box.DynBox.{DynBox}
 use Rattle.strand_base.specs.ModuleSeen.{ModuleSeen}

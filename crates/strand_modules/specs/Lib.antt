@@ -1,4 +1,4 @@
-pub mod Parts
+pub mod ModuleWords
 pub mod Bank
 pub mod Reading
 pub mod Founded

@@ -1,16 +1,16 @@
 -- A read of the bank's first words.
 use Rattle.std.specs.Prelude.{◌≡◌, ℕ, ◌+◌, ◌%◌, ◌<◌, ◌≤◌, List, length, take, IfOk, IfErr, IfSome, OnOk}
 use Rattle.std.specs.declared.result.Result.{Result}
-use Rattle.strand_modules.specs.Bank.{BankSeen, Keeps, Refuses, read_refused, loads_accepted, asked_first}
+use Rattle.strand_modules.specs.Bank.{BankSeen, Keeps, Refuses, read_refused, reads_accepted, asked_first}
 use Rattle.strand_modules.specs.declared.faults.ReadAllFault.{ReadAllFault}
 use Rattle.strand_modules.specs.declared.faults.ReadAllFault.TheVariants.{Module, OutOfMemory}
 
 -- Word n was refused, by its module; or there was no memory for the words that were read.
 abbrev pub ReadFails : BankSeen → BankSeen → ℕ → ReadAllFault → Type 0
-ReadFails old new count (Module e) = (n : ℕ) × (n < count) × (e.«module» ≡ n % length old.faults) × (new.accepted ≡ loads_accepted n old.accepted)
+ReadFails old new count (Module e) = (n : ℕ) × (n < count) × (e.«module» ≡ n % length old.faults) × (new.accepted ≡ reads_accepted n old.accepted)
     × (new.calls ≡ asked_first (n + 1) old.calls) × Refuses read_refused old new e.«module»
 ReadFails old new count OutOfMemory = (new.refused ≡ old.refused) × (new.faults ≡ old.faults)
-    × ((n : ℕ) × (n ≤ count) × (new.accepted ≡ loads_accepted n old.accepted) × (new.calls ≡ asked_first n old.calls))
+    × ((n : ℕ) × (n ≤ count) × (new.accepted ≡ reads_accepted n old.accepted) × (new.calls ≡ asked_first n old.calls))
 
 -- loads of the first words, in order
 pub record ReadsAll (old new : BankSeen) (count : ℕ) (result : Result (List ℕ) ReadAllFault) : Type 0 where
@@ -19,7 +19,7 @@ pub record ReadsAll (old new : BankSeen) (count : ℕ) (result : Result (List �
   pub length_is : IfOk result (λ words. length words ≡ count)
   pub words_are : IfOk result (λ words. IfSome old.told (λ told. words ≡ take count told))
   pub accepted : OnOk result (new.refused ≡ old.refused)
-  pub counted : OnOk result (new.accepted ≡ loads_accepted count old.accepted)
+  pub counted : OnOk result (new.accepted ≡ reads_accepted count old.accepted)
   pub called : OnOk result (new.calls ≡ asked_first count old.calls)
   pub quiet : OnOk result (new.faults ≡ old.faults)
   pub failed : IfErr result (ReadFails old new count)

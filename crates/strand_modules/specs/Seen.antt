@@ -1,5 +1,5 @@
 -- The bank as contracts see it, in this crate and above.
-use Rattle.std.specs.Prelude.{ℕ, List, map}
+use Rattle.std.specs.Prelude.{ℕ, map}
 use Rattle.strand_base.specs.ModuleSeen.{ModuleSeen}
 use Rattle.strand_modules.specs.Bank.{BankSeen, bank_of}
 use Rattle.strand_modules.specs.declared.bank.ModuleBank.{ModuleBank}

@@ -49,7 +49,7 @@ impl ModuleBank {
         let index = (i % count) as usize;
         match load_in(&mut self.modules, index, i / count) {
             Ok(value) => {
-                self.accepted.count_load();
+                self.accepted.count_read();
                 Ok(value)
             }
             Err(ModuleFailed) => {

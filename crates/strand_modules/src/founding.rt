@@ -2,6 +2,7 @@ ghost use Rattle.std.specs.Prelude.{◌≡◌, ◌≢◌, ◌<◌, IfNone, IfSom
 ghost use Rattle.strand_modules.specs.Founded.{Founds, AllOf, unused};
 ghost use Rattle.strand_modules.specs.Here.{bank_here};
 
+use crate::bank::MOST_MODULES;
 use crate::parts::part_words;
 use crate::{Accepted, BankFault, ModuleBank, Refusals};
 use std::alloc::Global;
@@ -34,7 +35,7 @@ impl ModuleBank {
         if modules.is_empty() {
             return Err(BankFault::NoModule);
         }
-        if modules.len() > 8 {
+        if modules.len() > MOST_MODULES {
             return Err(BankFault::TooMany {
                 number: modules.len() as u64,
             });
@@ -50,9 +51,9 @@ impl ModuleBank {
         Ok(ModuleBank {
             alloc,
             modules,
-            refusals: [none; 8],
+            refusals: [none; MOST_MODULES],
             accepted: Accepted {
-                loads: 0,
+                reads: 0,
                 stores: 0,
             },
         })

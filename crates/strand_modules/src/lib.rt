@@ -15,7 +15,7 @@ mod replacing;
 mod tests;
 
 pub use accepted::Accepted;
-pub use bank::ModuleBank;
+pub use bank::{MOST_MODULES, ModuleBank};
 pub use faults::{BankFault, ReadAllFault, Refused, ReplaceFault};
 pub use ram_module::RamModule;
 pub use refusals::{AtModule, Refusals};

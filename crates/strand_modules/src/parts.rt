@@ -1,7 +1,7 @@
 // Calls of the objects that a bank has.
 ghost use Rattle.std.specs.Prelude.{◌≡◌, ◌<◌, ◌≤◌, ◌^◌, ℕ, IfSome, length, map, slice_index_or, slice_set, vec_len};
 ghost use Rattle.strand_base.specs.ModuleSeen.{ModuleSeen, LoadsWord, StoresWord};
-ghost use Rattle.strand_modules.specs.Parts.{part_size as size_of};
+ghost use Rattle.strand_modules.specs.ModuleWords.{part_size as size_of};
 
 use strand_base::{ModuleFailed, PmModule};
 

@@ -1,9 +1,2 @@
-pub mod GraphSound
-pub mod GraphComplete
-pub mod DirectPaths
-pub mod Listed
-pub mod Ends
-pub mod FewEdges
-pub mod Noting
-pub mod Finding
-pub mod Following
+pub mod Paths
+pub mod Edges

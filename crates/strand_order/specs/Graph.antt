@@ -59,10 +59,10 @@ abbrev pub is_edge : Mode → List Event → ℕ → ℕ → Bool
 is_edge mode t i j = nat_lt i j && (word_edge t i j || core_edge mode t i j)
 
 -- the events lead from a to b: from each to the next there is an edge
-abbrev pub Path : Mode → List Event → ℕ → List ℕ → ℕ → Type 0
-Path mode t a [] b = is_edge mode t a b ≡ true
-Path mode t a (x ∷ xs) b = (is_edge mode t a x ≡ true) × Path mode t x xs b
+abbrev pub EdgePath : Mode → List Event → ℕ → List ℕ → ℕ → Type 0
+EdgePath mode t a [] b = is_edge mode t a b ≡ true
+EdgePath mode t a (x ∷ xs) b = (is_edge mode t a x ≡ true) × EdgePath mode t x xs b
 
 -- a path of edges leads from a to b
 abbrev pub LeadsTo : Mode → List Event → ℕ → ℕ → Type 0
-LeadsTo mode t a b = (xs : List ℕ) × Path mode t a xs b
+LeadsTo mode t a b = (xs : List ℕ) × EdgePath mode t a xs b

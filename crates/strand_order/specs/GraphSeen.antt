@@ -12,6 +12,6 @@ pub record GraphSeen : Type 0 where
   pub mode : Mode
 
 -- what every graph keeps
-pub record IsKept (events : List Event) (mode : Mode) (edges : List Edge) : Type 0 where
+pub record IsKeptGraph (events : List Event) (mode : Mode) (edges : List Edge) : Type 0 where
   pub small : length events < 2 ^ 32
   pub edges_are : edges ≡ edges_of mode events

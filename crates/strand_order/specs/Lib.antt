@@ -2,8 +2,8 @@ pub mod Graph
 pub mod Edges
 pub mod GraphSeen
 pub mod DirectPaths
-pub mod Marks
-pub mod CoreMarks
+pub mod Lasts
+pub mod CoreLasts
 pub mod Sources
 pub mod Walks
 pub mod Seen

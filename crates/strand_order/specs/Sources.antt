@@ -6,19 +6,19 @@ use Rattle.strand_events.specs.declared.event.Event.{Event}
 use Rattle.strand_events.specs.declared.event.Event.TheVariants.{Load, Store, Barrier, NewStrand, Join, Out}
 use Rattle.strand_events.specs.Trace.{is_access, core_at, word_at, event_is, core_event_is}
 use Rattle.strand_order.specs.Graph.{stores_word, drained_by}
-use Rattle.strand_order.specs.Marks.{since_below}
-use Rattle.strand_order.specs.declared.marks.CoreMarks.{CoreMarks}
-use Rattle.strand_order.specs.declared.marks.WordMarks.{WordMarks}
-use Rattle.strand_order.specs.declared.marks.Sources.{Sources}
-use Rattle.strand_order.specs.CoreMarks.{begin_in, gate_in}
+use Rattle.strand_order.specs.Lasts.{since_below}
+use Rattle.strand_order.specs.declared.lasts.CoreLasts.{CoreLasts}
+use Rattle.strand_order.specs.declared.lasts.WordLasts.{WordLasts}
+use Rattle.strand_order.specs.declared.lasts.Sources.{Sources}
+use Rattle.strand_order.specs.CoreLasts.{begin_in, gate_in}
 
 -- event k is an access of the word
 abbrev pub touches : List Event → ℕ → ℕ → Bool
 touches t word k = event_is is_access t k && (word_at t k == word)
 
 -- the last access of the word and the last store to it, below n
-abbrev pub word_marks : List Event → ℕ → ℕ → WordMarks
-word_marks t word n = record { access = since_below n (touches t word); store = since_below n (stores_word t word) }
+abbrev pub word_lasts : List Event → ℕ → ℕ → WordLasts
+word_lasts t word n = record { access = since_below n (touches t word); store = since_below n (stores_word t word) }
 
 -- for each access, the access of its word before it
 pub record AreWordLinks (t : List Event) (n : ℕ) (links : List ℕ) : Type 0 where
@@ -34,24 +34,24 @@ abbrev pub no_sources : Sources
 no_sources = record { last = 0; floor = 0; single = 0 }
 
 -- the core's previous access or join under strict, else its gate
-abbrev pub single_in : Mode → CoreMarks → ℕ
+abbrev pub single_in : Mode → CoreLasts → ℕ
 single_in Strict m = m.step
 single_in Epoch m = gate_in Epoch m
 single_in Strand m = gate_in Strand m
 
 -- the core's events that a barrier or a join drains: those after its gate and in its strand, or from its last join on
-abbrev pub barrier_sources : Mode → CoreMarks → Sources
+abbrev pub barrier_sources : Mode → CoreLasts → Sources
 barrier_sources Strict m = no_sources
 barrier_sources Epoch m = record { last = m.drained; floor = suc (max (begin_in Epoch m) (gate_in Epoch m)); single = gate_in Epoch m }
 barrier_sources Strand m = record { last = m.drained; floor = suc (max (begin_in Strand m) (gate_in Strand m)); single = gate_in Strand m }
 
-abbrev pub join_sources : Mode → CoreMarks → Sources
+abbrev pub join_sources : Mode → CoreLasts → Sources
 join_sources Strict m = record { last = 0; floor = 0; single = m.step }
 join_sources Epoch m = record { last = m.drained; floor = m.join; single = 0 }
 join_sources Strand m = record { last = m.drained; floor = m.join; single = 0 }
 
 -- by what its core and its word have seen
-abbrev pub sources_of : Mode → Event → CoreMarks → WordMarks → Sources
+abbrev pub sources_of : Mode → Event → CoreLasts → WordLasts → Sources
 sources_of mode (Load core word) m w = record { last = w.store; floor = w.store; single = single_in mode m }
 sources_of mode (Store persist core word value) m w = record { last = w.access; floor = w.store; single = single_in mode m }
 sources_of mode (Barrier core) m w = barrier_sources mode m

@@ -1,8 +1,8 @@
 -- A walk back along links, and what it gives.
 use Rattle.std.specs.Prelude.{◌≡◌, ℕ, ◌<◌, ◌≤◌, Bool, true, List, slice_index, reverse}
 use Rattle.strand_base.specs.Counting.{list_below}
-use Rattle.strand_order.specs.Marks.{since_below, cut, is_either}
-use Rattle.strand_order.specs.declared.marks.Sources.{Sources}
+use Rattle.strand_order.specs.Lasts.{since_below, cut, is_either}
+use Rattle.strand_order.specs.declared.lasts.Sources.{Sources}
 
 -- each link leads to an earlier event
 abbrev pub AreBack : List ℕ → Type 0

@@ -1,5 +1,6 @@
 // The edges of a trace, event by event.
 ghost use Rattle.std.specs.Prelude.{◌≡◌, suc, ◌<◌, ◌-◌, ◌^◌, ◌++◌, List, slice_get, Some, IfOk, OnOk, reverse};
+ghost use Rattle.strand_base.specs.declared.limits.TheConstants.{CORE_ROOM};
 ghost use Rattle.strand_base.specs.Counting.{list_below};
 ghost use Rattle.strand_events.specs.declared.event.Event.{Event};
 ghost use Rattle.strand_events.specs.Trace.{core_of};
@@ -25,7 +26,7 @@ fn sources_to(
     n: u32,
 ) -> Result<Vec<u32>, OutOfMemory>
     requires seen { (t : List Event) × (slice_get t n ≡ Some e) × IsSeen t n seen.now }
-    requires core { core_of e < 8 }
+    requires core { core_of e < CORE_ROOM }
     requires small { n < 2 ^ 32 - 1 }
     ensures { IfOk result (λ list. (t : List Event) → slice_get t n ≡ Some e → IsSeen t n seen.now
         → reverse list.items ≡ list_below n (λ i. is_edge mode t i n)) }
@@ -49,7 +50,7 @@ fn add_event(
     n: u32,
 ) -> Result<(), OutOfMemory>
     requires seen { (t : List Event) × (slice_get t n ≡ Some e) × IsSeen t n seen.old }
-    requires core { core_of e < 8 }
+    requires core { core_of e < CORE_ROOM }
     requires small { n < 2 ^ 32 - 1 }
     ensures edges { OnOk result ((t : List Event) → slice_get t n ≡ Some e → IsSeen t n seen.old
         → edges.new.items ≡ edges.old.items ++ edges_to mode t n n) }

@@ -23,11 +23,11 @@ impl Model for Graph {
 
     ghost Value = { GraphSeen };
 
-    ghost use Rattle.strand_order.specs.GraphSeen.{IsKept};
+    ghost use Rattle.strand_order.specs.GraphSeen.{IsKeptGraph};
 
     ghost view = { λ g. record { events = g.events.items; mode = g.mode } };
 
-    ghost invariant = { λ g. IsKept g.events.items g.mode g.edges.items };
+    ghost invariant = { λ g. IsKeptGraph g.events.items g.mode g.edges.items };
 }
 
 impl Graph {

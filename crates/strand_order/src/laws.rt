@@ -3,7 +3,7 @@ ghost use Rattle.strand_inputs.specs.declared.mode.Mode.{Mode};
 ghost use Rattle.strand_events.specs.declared.event.Event.{Event};
 ghost use Rattle.strand_events.specs.Trace.{event_is, is_access};
 ghost use Rattle.strand_events.specs.Order.{Before, directly_before};
-ghost use Rattle.strand_order.specs.Graph.{Path, LeadsTo, is_edge};
+ghost use Rattle.strand_order.specs.Graph.{EdgePath, LeadsTo, is_edge};
 ghost use Rattle.strand_order.specs.Edges.{edge_from, edges_of, StandsBefore};
 ghost use Rattle.strand_order.specs.DirectPaths.{AreBarriersOrJoins};
 ghost use Rattle.strand_order.specs.declared.edge.Edge.{Edge};
@@ -31,5 +31,5 @@ pub fn edges_are_listed()
 /// before the later, for every trace and all three modes.
 pub fn paths_past_barriers_and_joins_are_direct()
     ensures { (mode : Mode) (t : List Event) (a b : ℕ) (xs : List ℕ) → event_is is_access t a ≡ true → event_is is_access t b ≡ true
-        → AreBarriersOrJoins t xs → Path mode t a xs b → directly_before mode t a b ≡ true }
+        → AreBarriersOrJoins t xs → EdgePath mode t a xs b → directly_before mode t a b ≡ true }
 {}

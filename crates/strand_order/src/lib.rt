@@ -4,8 +4,8 @@
 mod building;
 mod edge;
 mod graph;
+mod lasts;
 mod laws;
-mod marks;
 mod seen;
 mod sources;
 mod walking;

@@ -1,10 +1,10 @@
 // Where the edges to an event come from, by what its core and its word have seen.
 ghost use Rattle.std.specs.Prelude.{◌≡◌};
-ghost use Rattle.strand_order.specs.CoreMarks.{begin_in, gate_in};
+ghost use Rattle.strand_order.specs.CoreLasts.{begin_in, gate_in};
 ghost use Rattle.strand_order.specs.Sources.{single_in, barrier_sources, join_sources, sources_of};
 ghost use Rattle.strand_order.specs.Seen.{AreSmall};
 
-use crate::marks::{CoreMarks, Sources, WordMarks};
+use crate::lasts::{CoreLasts, Sources, WordLasts};
 use crate::walking::cut;
 use strand_events::Event;
 use strand_inputs::Mode;
@@ -15,7 +15,7 @@ const NO_SOURCES: Sources = Sources {
     single: 0,
 };
 
-fn begin_in(mode: Mode, m: CoreMarks) -> u32
+fn begin_in(mode: Mode, m: CoreLasts) -> u32
     ensures { result ≡ begin_in mode m }
 {
     match mode {
@@ -24,13 +24,13 @@ fn begin_in(mode: Mode, m: CoreMarks) -> u32
     }
 }
 
-fn gate_in(mode: Mode, m: CoreMarks) -> u32
+fn gate_in(mode: Mode, m: CoreLasts) -> u32
     ensures { result ≡ gate_in mode m }
 {
     m.join.max(cut(begin_in(mode, m), m.barrier))
 }
 
-fn single_in(mode: Mode, m: CoreMarks) -> u32
+fn single_in(mode: Mode, m: CoreLasts) -> u32
     ensures { result ≡ single_in mode m }
 {
     match mode {
@@ -39,7 +39,7 @@ fn single_in(mode: Mode, m: CoreMarks) -> u32
     }
 }
 
-fn barrier_sources(mode: Mode, m: CoreMarks) -> Sources
+fn barrier_sources(mode: Mode, m: CoreLasts) -> Sources
     requires { AreSmall m }
     ensures { result ≡ barrier_sources mode m }
 {
@@ -53,7 +53,7 @@ fn barrier_sources(mode: Mode, m: CoreMarks) -> Sources
     }
 }
 
-fn join_sources(mode: Mode, m: CoreMarks) -> Sources
+fn join_sources(mode: Mode, m: CoreLasts) -> Sources
     ensures { result ≡ join_sources mode m }
 {
     match mode {
@@ -70,7 +70,7 @@ fn join_sources(mode: Mode, m: CoreMarks) -> Sources
     }
 }
 
-pub(crate) fn sources_of(mode: Mode, e: Event, m: CoreMarks, w: WordMarks) -> Sources
+pub(crate) fn sources_of(mode: Mode, e: Event, m: CoreLasts, w: WordLasts) -> Sources
     requires { AreSmall m }
     ensures { result ≡ sources_of mode e m w }
 {

@@ -1,19 +1,19 @@
 // Walking back along links.
 ghost use Rattle.std.specs.Prelude.{◌≡◌, ◌≤◌, ◌-◌, ◌==◌, ◌++◌, length, map, reverse, slice_index, IfOk, OnOk, if◌then◌else◌};
 ghost use Rattle.strand_order.specs.Edges.{edge_from};
-ghost use Rattle.strand_order.specs.Marks.{cut};
+ghost use Rattle.strand_order.specs.Lasts.{cut};
 ghost use Rattle.strand_order.specs.Walks.{AreBack, IsWalked};
 
 use crate::edge::Edge;
-use crate::marks::Sources;
+use crate::lasts::Sources;
 use std::alloc::Global;
 use strand_base::OutOfMemory;
 
-// A mark below the floor is none.
-pub(crate) fn cut(floor: u32, mark: u32) -> u32
-    ensures { result ≡ cut floor mark }
+// A last event below the floor is none.
+pub(crate) fn cut(floor: u32, last: u32) -> u32
+    ensures { result ≡ cut floor last }
 {
-    if floor <= mark { mark } else { 0 }
+    if floor <= last { last } else { 0 }
 }
 
 fn single_after(single: u32, next: u32) -> u32

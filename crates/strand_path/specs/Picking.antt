@@ -3,7 +3,7 @@ use Rattle.std.specs.Prelude.{◌≡◌, ℕ, suc, ◌<◌, ◌≤◌, Bool, tru
 use Rattle.strand_inputs.specs.declared.mode.Mode.{Mode}
 use Rattle.strand_events.specs.declared.event.Event.{Event}
 use Rattle.strand_events.specs.Trace.{is_persist, event_is}
-use Rattle.strand_order.specs.Graph.{Path, LeadsTo}
+use Rattle.strand_order.specs.Graph.{EdgePath, LeadsTo}
 use Rattle.strand_path.specs.Checked.{greatest_below}
 
 -- event k is a persist of the level
@@ -36,7 +36,7 @@ pub record ArePicked (mode : Mode) (t : List Event) (levels chain : List ℕ) (n
   pub pick : (k : ℕ) → n ≤ k → suc k < length chain → IsPick mode t levels (slice_index chain (suc k)) (suc k) (slice_index chain k)
 
 -- a path's events after p, up to q, were put at the end
-pub record IsWalked (mode : Mode) (t : List Event) (p q : ℕ) (old new : List ℕ) : Type 0 where
+pub record IsAppendedPath (mode : Mode) (t : List Event) (p q : ℕ) (old new : List ℕ) : Type 0 where
   pub between : List ℕ
-  pub path : Path mode t p between q
+  pub path : EdgePath mode t p between q
   pub made : new ≡ old ++ (between ++ q ∷ [])

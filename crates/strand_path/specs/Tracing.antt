@@ -33,7 +33,7 @@ pub record IsVia (mode : Mode) (t : List Event) (levels firsts : List ℕ) (j i 
   pub first : slice_index firsts j ≡ top t firsts i
 
 -- each via is an edge from which the level comes, and each event that something leads to with a level has one
-pub record AreLinked (mode : Mode) (t : List Event) (levels firsts vias : List ℕ) : Type 0 where
+pub record AreVias (mode : Mode) (t : List Event) (levels firsts vias : List ℕ) : Type 0 where
   pub long : length vias ≡ length t
   pub via : (j i : ℕ) → slice_index vias j ≡ suc i → IsVia mode t levels firsts j i
   pub onward : (j : ℕ) → own_level t j < slice_index levels j → 1 ≤ slice_index vias j
@@ -45,7 +45,7 @@ pub record AreFirsts (mode : Mode) (t : List Event) (levels firsts : List ℕ) :
 
 -- the vias of an answer are such links
 abbrev pub IsLinked : Mode → List Event → Traces → Type 0
-IsLinked mode t traces = AreLinked mode t traces.levels.items traces.firsts.items traces.vias.items
+IsLinked mode t traces = AreVias mode t traces.levels.items traces.firsts.items traces.vias.items
 
 -- what one pass over the edges gives
 pub record AreTraces (mode : Mode) (t : List Event) (traces : Traces) : Type 0 where

@@ -3,7 +3,7 @@ ghost use Rattle.std.specs.Prelude.{◌≡◌, ◌<◌, ◌≤◌, ◌++◌, Lis
 ghost use Rattle.strand_inputs.specs.declared.mode.Mode.{Mode};
 ghost use Rattle.strand_events.specs.declared.event.Event.{Event};
 ghost use Rattle.strand_path.specs.Checked.{IsRoute, number_of, numbers_on};
-ghost use Rattle.strand_path.specs.Picking.{ArePicked, IsWalked};
+ghost use Rattle.strand_path.specs.Picking.{ArePicked, IsAppendedPath};
 ghost use Rattle.strand_path.specs.Tracing.{IsLinked, AreTraces};
 
 use crate::tracing::Traces;
@@ -36,7 +36,7 @@ fn walk(
     requires via { 1 ≤ slice_index traces.now.vias.items q }
     requires less { p < q }
     ensures { OnOk result ((mode : Mode) (t : List Event) → IsLinked mode t traces.now
-        → IsWalked mode t p q route.old route.new) }
+        → IsAppendedPath mode t p q route.old route.new) }
 {
     let mut back = Vec::new(alloc);
     let mut x = q;

@@ -1,4 +1,5 @@
 ghost use Rattle.std.specs.Prelude.{◌≡◌, ◌<◌, ◌≤◌, ◌++◌, ◌==◌, [], ◌∷◌, IfOk, drop, length, slice_get};
+ghost use Rattle.strand_base.specs.declared.limits.TheConstants.{MOST_QUEUE};
 ghost use Rattle.strand_queue.specs.Queue.{queue};
 
 use crate::item::Item;
@@ -27,7 +28,7 @@ impl PersistQueue {
     /// other call takes any.
     pub fn new(alloc: Global, depth: u32) -> Result<PersistQueue, OutOfMemory>
         requires some { 1 ≤ depth }
-        requires limit { depth ≤ 64 }
+        requires limit { depth ≤ MOST_QUEUE }
         ensures { IfOk result (λ q. q ≡ queue [] depth) }
     {
         match HeapCircularBuffer::with_capacity(alloc, depth as usize) {

@@ -1,8 +1,8 @@
--- A line of fields in its parts.
+-- Serves each call that writes a line, through put_fields: a line of fields in its parts.
 use Rattle.std.proofs.Common.{◌≡◌, ℕ, ◌<◌, List, [], ◌∷◌, ◌++◌, length, get_or, drop, map, arith, ap, ◌∙◌, append_assoc}
 use Rattle.std.specs.List.{flat_map}
 use Rattle.std.proofs.lemmas.List.Concat.{flat_map-append}
-use Rattle.strand_base.proofs.Fronts.{flat_of_map}
+use Rattle.strand_base.proofs.AppendsFront.{flat_of_map}
 use Rattle.strand_base.specs.Text.{line_text}
 use Rattle.strand_report.specs.declared.fields.Field.{Field}
 use Rattle.strand_report.specs.Fields.{field_text}

@@ -1,4 +1,4 @@
--- A report of a run that a module's refusal ended has that as its last line.
+-- Serves clause module_fault of strand_main: a report that a module's refusal ended has that as its last line.
 use Rattle.std.proofs.Common.{◌≡◌, ℕ, List, [], ◌∷◌, ◌++◌, take, ◌∙◌, ap}
 use Rattle.std.proofs.lemmas.List.{append-nil}
 use Rattle.std.proofs.lemmas.List.Folds.{concat-append}

@@ -1,7 +1,7 @@
-pub mod Counted
+pub mod CountLoop
 pub mod FieldLines
 pub mod LastLine
-pub mod Marked
+pub mod MarkLoop
 pub mod MemberLines
-pub mod Numbered
-pub mod Parts
+pub mod NumberedLoop
+pub mod TextParts

@@ -1,7 +1,7 @@
--- A line of numbers in its parts.
+-- Serves write_run and write_verdict, through put_members: a line of numbers in its parts.
 use Rattle.std.proofs.Common.{◌≡◌, ℕ, List, [], ◌∷◌, ◌++◌, length, codes, decimal, sym, ap, ◌∙◌, append_assoc}
 use Rattle.std.specs.List.{flat_map}
-use Rattle.strand_base.proofs.Fronts.{flat_of_map}
+use Rattle.strand_base.proofs.AppendsFront.{flat_of_map}
 use Rattle.strand_report.specs.Persists.{members_line}
 
 -- the name and the count, the members, and the line's end

@@ -4,11 +4,11 @@ use Rattle.std.specs.Fmt.{decimal}
 use lib.Chars.{codes}
 use Rattle.strand_base.specs.Counting.{list_below}
 use Rattle.strand_base.specs.Text.{line_text}
-use Rattle.strand_events.specs.Order.{held}
+use Rattle.strand_events.specs.Order.{set_of}
 
 -- the numbers that are marked, ascending
 abbrev pub marked : List Bool → List ℕ
-marked marks = list_below (length marks) (held marks)
+marked marks = list_below (length marks) (set_of marks)
 
 -- "NAME C:", and a space and a number for each of the C members
 abbrev pub members_line : List ℕ → List ℕ → List ℕ

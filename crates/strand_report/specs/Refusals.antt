@@ -10,8 +10,8 @@ use Rattle.strand_asm_lines.specs.declared.fault.LineKind.{LineKind}
 use Rattle.strand_asm_lines.specs.declared.fault.LineKind.TheVariants.{BadToken, BadNumber, BadRegister, UnknownName, MissingOperand, ExtraOperand}
 use Rattle.strand_image.specs.declared.fault.ImageFault.{ImageFault}
 use Rattle.strand_image.specs.declared.fault.ImageFault.TheVariants as image
-use Rattle.strand_image.specs.declared.fault.Quantity.{Quantity}
-use Rattle.strand_image.specs.declared.fault.Quantity.TheVariants.{Cores, Code, Volatile, Persistent}
+use Rattle.strand_image.specs.declared.quantity.Quantity.{Quantity}
+use Rattle.strand_image.specs.declared.quantity.Quantity.TheVariants.{Cores, Code, Volatile, Persistent}
 use Rattle.strand_inputs.specs.Machine.{key_word}
 use Rattle.strand_inputs.specs.declared.fault.InputFault.{InputFault}
 use Rattle.strand_inputs.specs.declared.fault.InputFault.TheVariants as input

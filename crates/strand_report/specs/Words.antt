@@ -1,6 +1,7 @@
 -- The words of a memory, as lines.
 use Rattle.std.specs.Prelude.{ℕ, ◌+◌, ◌*◌, List, [], ◌∷◌, ◌++◌, ◌==◌, if◌then◌else◌}
 use lib.Chars.{codes}
+use Rattle.strand_base.specs.declared.regions.TheConstants.{PERSISTENT_BASE, VOLATILE_BASE}
 use Rattle.strand_base.specs.Hexadecimal.{hex16}
 use Rattle.strand_base.specs.Text.{line_text}
 use Rattle.strand_exec.specs.Memory.{Memory}
@@ -13,10 +14,10 @@ word_line name base place w =
 
 -- the words that the modules hold
 abbrev pub held_lines : List ℕ → List ℕ
-held_lines held = numbered (word_line (codes "pm") 0x40000000) held
+held_lines held = numbered (word_line (codes "pm") PERSISTENT_BASE) held
 
 -- the words that the cores see: the volatile ones, then the persistent ones
 abbrev pub visible_lines : Memory → List ℕ
 visible_lines memory =
-    numbered (word_line (codes "vis") 0x20000000) memory.volatile
-    ++ numbered (word_line (codes "vis") 0x40000000) memory.persistent
+    numbered (word_line (codes "vis") VOLATILE_BASE) memory.volatile
+    ++ numbered (word_line (codes "vis") PERSISTENT_BASE) memory.persistent

@@ -12,10 +12,10 @@ use crate::members::put_members;
 use crate::outs::put_outs;
 use crate::words::{put_visible, put_words};
 use crate::{ModuleFault, write_module_fault};
-use strand_base::OutOfMemory;
+use strand_base::{OutOfMemory, PERSISTENT_BASE};
 use strand_cache::Counts;
 use strand_events::Trace;
-use strand_exec::{CoreState, FlatMemory, PERSISTENT_BASE};
+use strand_exec::{CoreState, FlatMemory};
 use strand_path::Path;
 use strand_rules::BubbleAt;
 

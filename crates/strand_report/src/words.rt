@@ -5,8 +5,8 @@ ghost use Rattle.strand_report.specs.Words.{visible_lines, word_line};
 
 use crate::fields::Field::{Hex, Word};
 use crate::fields::put_fields;
-use strand_base::OutOfMemory;
-use strand_exec::{FlatMemory, PERSISTENT_BASE, VOLATILE_BASE};
+use strand_base::{OutOfMemory, PERSISTENT_BASE, VOLATILE_BASE};
+use strand_exec::FlatMemory;
 
 /// The line of a word, where it is not 0.
 fn put_word(

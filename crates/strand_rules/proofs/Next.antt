@@ -1,14 +1,14 @@
--- The rule of conflicts in the longer trace and for the next event are one.
+-- Serves clause step of PlainMachine::step: the rule of conflicts in the longer trace and for the next event are one.
 use Rattle.std.proofs.Common.{◌≡◌, ℕ, ◌+◌, ◌≤◌, ◌&&◌, List, [], ◌∷◌, ◌++◌, length, refl, ap, ◌∙◌, arith}
 use Rattle.std.specs.Prelude.{not}
 use Rattle.strand_inputs.specs.declared.mode.Mode.{Mode}
 use Rattle.strand_inputs.specs.declared.mode.Mode.TheVariants.{Strict, Epoch, Strand}
 use Rattle.strand_base.specs.Counting.{count_below}
-use Rattle.strand_base.proofs.Counting.{any_agree, count_agree, get_last}
+use Rattle.strand_base.proofs.BelowBound.{any_agree, count_agree, get_last}
 use Rattle.strand_events.specs.declared.event.Event.{Event}
 use Rattle.strand_events.specs.Trace.{passes, word_in, core_in, is_persist, is_store, is_access, is_new_strand, core_of, core_at, core_event_is, strand_number, same_strand}
 use Rattle.strand_events.specs.Order.{Set, conflicts}
-use Rattle.strand_events.proofs.Prefix.{event_is_kept, core_kept, word_kept, core_event_kept, number_kept}
+use Rattle.strand_events.proofs.LongerTrace.{event_is_kept, core_kept, word_kept, core_event_kept, number_kept}
 use Rattle.strand_rules.specs.Cycle.{some_wait, must_wait}
 use Rattle.strand_rules.specs.Looking.{next_strand, holds_up, must_stall}
 

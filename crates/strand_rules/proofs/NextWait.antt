@@ -1,10 +1,12 @@
+-- Serves clause step of PlainMachine::step under tag: the next wait, and whether a wait is met.
 -- The wait of the next event is the greatest of what the accesses so far hand on to it.
 use Rattle.std.proofs.Common.{◌≡◌, ℕ, suc, ◌+◌, ◌<◌, ◌≤◌, Bool, true, false, ◌&&◌, ◌||◌, List, [], ◌∷◌, ◌++◌, length, refl, sym, ap, ◌∙◌, arith}
 use Rattle.std.specs.Prelude.{not, ◌==◌, nat_lt, slice_index}
 use Rattle.std.proofs.lemmas.Bool.{eqb-true, lt-ltb, and_parts, ltb-true, ltb-false}
 use Rattle.strand_base.specs.Counting.{any_below}
-use Rattle.strand_base.proofs.Counting.{any_agree, get_last, count_yes, list_length}
+use Rattle.strand_base.proofs.BelowBound.{any_agree, get_last, count_yes, list_length}
 use Rattle.std.proofs.lemmas.List.{length-map}
+use Rattle.strand_base.specs.declared.limits.TheConstants.{CORE_ROOM}
 use Rattle.strand_inputs.specs.declared.mode.Mode.{Mode}
 use Rattle.strand_events.specs.declared.event.Event.{Event}
 use Rattle.strand_events.specs.Fits.{AllFit}
@@ -13,16 +15,16 @@ use Rattle.strand_events.specs.Order.{Set, core_orders, directly_before}
 use Rattle.strand_events.specs.Greatest.{max_below}
 use Rattle.strand_events.specs.Prefixes.{made_below, core_marks, core_persists, durable_prefix}
 use Rattle.strand_events.specs.Waits.{made_at, handed, wait, is_met}
-use Rattle.strand_events.proofs.ByPrefixes.{met_within}
-use Rattle.strand_events.proofs.Counted.{wait_is}
-use Rattle.strand_events.proofs.Greatest.{max_agree}
-use Rattle.strand_events.proofs.Leading.{leading_most, missing_up_to}
-use Rattle.strand_events.proofs.Prefix.{event_is_kept, core_kept, word_kept, number_kept, orders_kept}
-use Rattle.strand_events.proofs.WaitKept.{persists_kept, wait_kept}
+use Rattle.strand_events.proofs.Waits.Prefixes.{met_within}
+use Rattle.strand_events.proofs.Waits.Counts.{wait_is}
+use Rattle.strand_events.proofs.Waits.Greatest.{max_agree}
+use Rattle.strand_events.proofs.Waits.DurablePrefix.{leading_most, missing_up_to}
+use Rattle.strand_events.proofs.LongerTrace.{event_is_kept, core_kept, word_kept, number_kept, orders_kept}
+use Rattle.strand_events.proofs.Waits.LongerTrace.{persists_kept, wait_kept}
 use Rattle.strand_rules.specs.Looking.{is_in_next}
-use Rattle.strand_rules.specs.Next.{is_next, kept_wait, made_next, hands_next, is_within, AreWaits, ArePrefixes}
+use Rattle.strand_rules.specs.Next.{is_next, made_next, hands_next, ArePrefixes}
 use Rattle.strand_rules.proofs.Next.{core_new, number_new}
-use Rattle.strand_rules.proofs.Waiting.{core_few}
+use Rattle.strand_rules.proofs.TraceLoop.{core_few}
 
 module _ (mode : Mode) (t : List Event) (e : Event) where
   strand_next : (a : ℕ) → a < length t → same_strand mode (t ++ e ∷ []) a (length t) ≡ is_in_next mode t e a
@@ -52,24 +54,24 @@ module _ (mode : Mode) (t : List Event) (e : Event) where
       (tidy acc (is_access e) word store (same && core_orders mode (core_at t a) t a n)
       ∙ ap (λ b. acc && is_access e && b) (either (word && store) same (core_orders mode (core_at t a) t a n) (core_orders mode (core_of e) t a n) (λ own. ap (λ c. core_orders mode c t a n) (eqb-true (core_at t a) (core_of e) own))))
 
-  module _ (waits : List (List ℕ)) (are : AreWaits mode t waits) (c : ℕ) (few : c < 8) where
-    handed_next : (a : ℕ) → a < length t → handed mode (t ++ e ∷ []) (wait mode (t ++ e ∷ []) c) c (length t) a ≡ hands_next mode t waits e c a
+  module _ (c : ℕ) where
+    handed_next : (a : ℕ) → a < length t → handed mode (t ++ e ∷ []) (wait mode (t ++ e ∷ []) c) c (length t) a ≡ hands_next mode t e c a
     handed_next a lt =
         let upto : a + 1 ≤ length t = omega arith in
         let direct : directly_before mode (t ++ e ∷ []) a (length t) ≡ is_next mode t e a = direct_next a lt in
-        let kept : wait mode (t ++ e ∷ []) c a ≡ kept_wait waits c a = wait_kept mode t e c a lt ∙ sym (are.1 c a few lt) in
+        let kept : wait mode (t ++ e ∷ []) c a ≡ wait mode t c a = wait_kept mode t e c a lt in
         let made : made_at mode (t ++ e ∷ []) c (length t) a ≡ made_next mode t e c a = cc (core_kept t e a lt, strand_next a lt, persists_kept mode t e c (a + 1) upto) in
         rw (direct, kept, made) refl
 
-    pub next_is : wait mode (t ++ e ∷ []) c (length t) ≡ max_below (length t) (hands_next mode t waits e c)
-    next_is = wait_is mode (t ++ e ∷ []) c (length t) ∙ max_agree (length t) (handed mode (t ++ e ∷ []) (wait mode (t ++ e ∷ []) c) c (length t)) (hands_next mode t waits e c) handed_next
+    pub next_is : wait mode (t ++ e ∷ []) c (length t) ≡ max_below (length t) (hands_next mode t e c)
+    next_is = wait_is mode (t ++ e ∷ []) c (length t) ∙ max_agree (length t) (handed mode (t ++ e ∷ []) (wait mode (t ++ e ∷ []) c) c (length t)) (hands_next mode t e c) handed_next
 
--- the waits that are kept say whether a wait is met
-pub met_kept : (mode : Mode) (t : List Event) (durable : Set) (waits : List (List ℕ)) (prefixes : List ℕ) (x : ℕ) → AllFit t → AreWaits mode t waits → ArePrefixes t durable prefixes → x < length t
-    → is_within waits prefixes x ≡ is_met mode t durable x
-met_kept mode t durable waits prefixes x fits are first lt =
-    ap not (any_agree 8 (λ c. nat_lt (slice_index prefixes c) (kept_wait waits c x)) (λ c. nat_lt (durable_prefix t durable c) (wait mode t c x)) (λ c few. cc (first c few, are.1 c x few lt)))
-    ∙ sym (met_within mode t durable 8 x (λ i below. core_few t i fits below))
+-- a wait is met where no number of it is greater than that of the core's first persists that are all durable
+pub met_by_prefixes : (mode : Mode) (t : List Event) (durable : Set) (prefixes : List ℕ) (x : ℕ) → AllFit t → ArePrefixes t durable prefixes
+    → not (any_below CORE_ROOM (λ c. nat_lt (slice_index prefixes c) (wait mode t c x))) ≡ is_met mode t durable x
+met_by_prefixes mode t durable prefixes x fits first =
+    ap not (any_agree CORE_ROOM (λ c. nat_lt (slice_index prefixes c) (wait mode t c x)) (λ c. nat_lt (durable_prefix t durable c) (wait mode t c x)) (λ c few. cc (first c few)))
+    ∙ sym (met_within mode t durable CORE_ROOM x (λ i below. core_few t i fits below))
 
 -- the first persists of a core that are all durable, where a trace is gone over up to the first that isn't
 module _ (t : List Event) (durable : Set) (core : ℕ) where

@@ -1,4 +1,4 @@
--- What a step of the pipeline leaves of the plain machine, which has its memory beside it.
+-- Serves clause step of PlainMachine::step: what a step of the pipeline leaves, with the memory beside it.
 use Rattle.std.proofs.Common.{◌≡◌, ℕ, ◌+◌, Bool, true, false, length, refl, sym, ap, subst, ◌∙◌}
 use Rattle.std.specs.Prelude.{◌≤◌, Some, None, slice_get, vec_capacity, ◌==◌, if◌then◌else◌, ◌&&◌}
 use Rattle.std.specs.declared.option.Option.{Option}
@@ -14,12 +14,12 @@ use Rattle.strand_rules.specs.declared.turn.Cause.TheVariants as causes
 use Rattle.strand_rules.specs.declared.turn.Turn.{Turn}
 use Rattle.strand_rules.specs.declared.turn.Turn.TheVariants.{Done, Bubble, Fault}
 use Rattle.strand_rules.specs.Cycle.{State, turn, item_turn, send_turn, ring_use, buffer_of, buffer_busy, front, eligible, item_after, send_after, write_after, done_after, after_turn, after, IsReached}
-use Rattle.strand_rules.specs.KeptPlain.{IsHeld}
+use Rattle.strand_rules.specs.KeptPlain.{IsKeptPlainMachine}
 use Rattle.strand_rules.specs.Next.{AreKeptWaits}
 use Rattle.strand_rules.specs.Visible.{Program, Visible}
-use Rattle.strand_rules.specs.Machine.{Machine, Steps, StoresOk, stepped, stored_by}
+use Rattle.strand_rules.specs.Machine.{Machine, StepLeaves, StoresOk, stepped, stored_by}
 use Rattle.strand_rules.specs.Pipeline.{state_with, with_memory}
-use Rattle.strand_rules.proofs.Reached.{reached_after}
+use Rattle.strand_rules.proofs.IsReached.{reached_after}
 use Rattle.strand_rules.proofs.WithMemory.{MovesNoCore, stepped_with}
 
 abbrev is_fault : Turn → Bool
@@ -43,15 +43,15 @@ send_safe g s (Some p) = no_fault (length s.flight == g.flight) causes.FlightFul
 
 -- a step that stores nothing
 turned_steps : (old new : Machine) (bank : BankSeen) (step : Step) (t : Turn) → stored_by old.state step ≡ None → is_fault (turn old.config old.program old.state step) ≡ false
-    → t ≡ turn old.config old.program old.state step → new ≡ stepped old step → Steps old new bank bank step t
+    → t ≡ turn old.config old.program old.state step → new ≡ stepped old step → StepLeaves old new bank bank step t
 turned_steps old new bank step Done nothing safe is same = (sym is, same, subst (λ o. StoresOk o bank bank) (sym nothing) refl)
 turned_steps old new bank step (Bubble cause) nothing safe is same = (sym is, same, refl)
 turned_steps old new bank step (Fault m) nothing safe is same = absurd (true≢false (ap is_fault is ∙ safe))
 
-pub dispatch_steps : (old new : Machine) (bank : BankSeen) (n : ℕ) (t : Turn) → t ≡ turn old.config old.program old.state (Dispatch n) → new ≡ stepped old (Dispatch n) → Steps old new bank bank (Dispatch n) t
+pub dispatch_steps : (old new : Machine) (bank : BankSeen) (n : ℕ) (t : Turn) → t ≡ turn old.config old.program old.state (Dispatch n) → new ≡ stepped old (Dispatch n) → StepLeaves old new bank bank (Dispatch n) t
 dispatch_steps old new bank n t is same = turned_steps old new bank (Dispatch n) t refl (item_safe old.config old.state n (front old.config old.state n)) is same
 
-pub send_steps : (old new : Machine) (bank : BankSeen) (n b j : ℕ) (t : Turn) → t ≡ turn old.config old.program old.state (Send n b j) → new ≡ stepped old (Send n b j) → Steps old new bank bank (Send n b j) t
+pub send_steps : (old new : Machine) (bank : BankSeen) (n b j : ℕ) (t : Turn) → t ≡ turn old.config old.program old.state (Send n b j) → new ≡ stepped old (Send n b j) → StepLeaves old new bank bank (Send n b j) t
 send_steps old new bank n b j t is same = turned_steps old new bank (Send n b j) t refl (send_safe old.config old.state (slice_get (eligible old.config old.state n b) j)) is same
 
 -- what is seen stays
@@ -82,8 +82,8 @@ after_stays : (g : Settings) (p : Program) (s : State) (step : Step) → MovesNo
 after_stays g p s step moves = turned_stays (turn g p s step) s (done_after g p s step) (done_stays g p s step moves)
 
 -- the memory and the waits stay, and a run reaches the state after the step
-module _ (m : Inside) (new : Machine) (step : Step) (moves : MovesNoCore step) (held : IsHeld m) where
-  pub stepped_held : new ≡ stepped m.pipeline step → IsHeld (record m { pipeline = new })
+module _ (m : Inside) (new : Machine) (step : Step) (moves : MovesNoCore step) (held : IsKeptPlainMachine m) where
+  pub stepped_held : new ≡ stepped m.pipeline step → IsKeptPlainMachine (record m { pipeline = new })
   stepped_held same = record {
     extents = held.extents ∙ sym (ap (λ (m : Machine). m.program.sizes) same);
     reached = subst (λ (m : Machine). IsReached m.config m.program m.state) (sym (ap (with_memory m.memory) same ∙ stepped_with m.memory m.pipeline step moves))
@@ -93,7 +93,7 @@ module _ (m : Inside) (new : Machine) (step : Step) (moves : MovesNoCore step) (
     waits_room = subst (λ (new : Machine). new.steps ≤ vec_capacity m.waits) (sym same) held.waits_room;
   }
 
-  pub steps_held : (bank bank' : BankSeen) (t : Turn) → Steps m.pipeline new bank bank' step t → IsHeld (record m { pipeline = new })
-  steps_held bank bank' (Fault k) (turned, same, stores) = subst (λ (p : Machine). IsHeld (record m { pipeline = p })) (sym same) held
-  steps_held bank bank' (Bubble cause) (turned, same, told) = stepped_held same
+  pub steps_held : (bank bank' : BankSeen) (t : Turn) → StepLeaves m.pipeline new bank bank' step t → IsKeptPlainMachine (record m { pipeline = new })
+  steps_held bank bank' (Fault k) (turned, same, stores) = subst (λ (p : Machine). IsKeptPlainMachine (record m { pipeline = p })) (sym same) held
+  steps_held bank bank' (Bubble cause) (turned, same, bank_same) = stepped_held same
   steps_held bank bank' Done (turned, same, stores) = stepped_held same

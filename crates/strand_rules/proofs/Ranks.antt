@@ -1,15 +1,15 @@
--- A persist's rank among the items of its core.
+-- Serves clauses closed and joined of durable_sets_are_allowed: a persist's rank among the items of its core.
 use Rattle.std.proofs.Common.{◌≡◌, ℕ, ◌≤◌, Bool, true, inl, inr, List, refl, arith}
 use Rattle.std.specs.Prelude.{◌==◌}
 use Rattle.std.proofs.lemmas.Bool.{cases_order, and_from, eq-eqb}
 use Rattle.strand_inputs.specs.declared.mode.Mode.{Mode}
 use Rattle.strand_events.specs.declared.event.Event.{Event}
 use Rattle.strand_base.specs.Counting.{count_below}
-use Rattle.strand_base.proofs.Counting.{count_mono, count_strict}
+use Rattle.strand_base.proofs.BelowBound.{count_mono, count_strict}
 use Rattle.strand_events.specs.Trace.{is_persist, core_at, event_is, core_event_is}
-use Rattle.strand_events.proofs.Epochs.{weaker}
+use Rattle.strand_events.proofs.PersistOrder.Epochs.{weaker}
 use Rattle.strand_rules.specs.Cycle.{is_item}
-use Rattle.strand_rules.proofs.Dispatching.{persist_item}
+use Rattle.strand_rules.proofs.Front.{persist_item}
 
 -- how many items of its core come before event p
 abbrev pub rank : Mode → List Event → ℕ → ℕ

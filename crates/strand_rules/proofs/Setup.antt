@@ -1,4 +1,4 @@
--- What no step of a core changes.
+-- Serves clause setup of PlainMachine::step and Machine::step: what no step of a core changes.
 use Rattle.std.proofs.Common.{◌≡◌, ℕ, length, refl, length-set}
 use Rattle.std.specs.Prelude.{slice_get, Some, None}
 use Rattle.std.specs.declared.option.Option.{Option}

@@ -1,14 +1,14 @@
--- What a turn that is Done has seen.
+-- Serves clauses closed and joined of durable_sets_are_allowed: what a turn that is Done has seen.
 use Rattle.std.proofs.Common.{◌≡◌, ℕ, ◌+◌, ◌<◌, Bool, true, false, ◌&&◌, ◌||◌, List, [], ◌∷◌, ◌++◌, length, refl, ap, arith}
 use Rattle.std.specs.Prelude.{if◌then◌else◌, not, ◌==◌}
 use Rattle.std.proofs.lemmas.Bool.{and_from, or_parts, eq-eqb, true≢false, false≢true}
-use Rattle.strand_base.proofs.Counting.{any_false}
+use Rattle.strand_base.proofs.BelowBound.{any_false}
 use Rattle.strand_inputs.specs.Settings.{Settings}
 use Rattle.strand_inputs.specs.declared.mode.Mode.{Mode}
 use Rattle.strand_events.specs.declared.event.Event.{Event}
 use Rattle.strand_events.specs.Trace.{is_persist, is_access, is_join, core_at, event_is, core_event_is, same_strand}
-use Rattle.strand_events.specs.Order.{Set, held, conflicts}
-use Rattle.strand_events.proofs.Chain.{AllDurableTo}
+use Rattle.strand_events.specs.Order.{Set, set_of, conflicts}
+use Rattle.strand_events.proofs.PersistOrder.Chain.{AllDurableTo}
 use Rattle.strand_rules.specs.declared.turn.Cause.{Cause}
 use Rattle.strand_rules.specs.declared.turn.Cause.TheVariants as causes
 use Rattle.strand_rules.specs.declared.turn.Turn.{Turn}
@@ -49,18 +49,18 @@ access_seen Stall mode t durable e h stall access = so_not (is_access e) (must_w
 access_seen Tag mode t durable e h stall access = absurd (true≢false (ap (λ c. elim c [ Tag ↦ true | Stall ↦ false ]) stall))
 
 pub event_done : (g : Settings) (s : State) (n : ℕ) (e : Event) → event_turn g s n e ≡ Done
-    → (is_join e ≡ true → some_wait s.now.trace (held s.durable) n (length s.now.trace) ≡ false)
-    × (g.conflict ≡ Stall → is_access e ≡ true → must_wait g.mode (s.now.trace ++ e ∷ []) (held s.durable) (length s.now.trace) ≡ false)
+    → (is_join e ≡ true → some_wait s.now.trace (set_of s.durable) n (length s.now.trace) ≡ false)
+    × (g.conflict ≡ Stall → is_access e ≡ true → must_wait g.mode (s.now.trace ++ e ∷ []) (set_of s.durable) (length s.now.trace) ≡ false)
 event_done g s n e done =
-    let must : Bool = access_waits g.conflict g.mode s.now.trace (held s.durable) e in
+    let must : Bool = access_waits g.conflict g.mode s.now.trace (set_of s.durable) e in
     let crowded : Bool = is_item g.mode e && (queued g s n == g.queue) in
-    let some : Bool = some_wait s.now.trace (held s.durable) n (length s.now.trace) in
+    let some : Bool = some_wait s.now.trace (set_of s.durable) n (length s.now.trace) in
     let one = if_done (is_join e && join_waits g s n) causes.Join (if must then Bubble causes.Conflict else if crowded then Bubble causes.Queue else Done) done in
     let two = if_done must causes.Conflict (if crowded then Bubble causes.Queue else Done) one.1 in (
       λ join.
           let none = so_not (is_join e) (join_waits g s n) one.0 join in
-          (or_parts (not (queued g s n == 0)) some (or_parts (not (queued g s n == 0) || some) (join_unmet g.conflict g.mode s.now.trace (held s.durable) n) none).0).1,
-      λ stall access. access_seen g.conflict g.mode s.now.trace (held s.durable) e two.0 stall access,
+          (or_parts (not (queued g s n == 0)) some (or_parts (not (queued g s n == 0) || some) (join_unmet g.conflict g.mode s.now.trace (set_of s.durable) n) none).0).1,
+      λ stall access. access_seen g.conflict g.mode s.now.trace (set_of s.durable) e two.0 stall access,
     )
 
 pub waited : (mode : Mode) (t : List Event) (durable : Set) (b : ℕ) → must_wait mode t durable b ≡ false → (a : ℕ) → a < b → conflicts t a b ≡ true → same_strand mode t a b ≡ false → AllDurableTo t durable a

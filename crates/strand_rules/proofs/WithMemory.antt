@@ -1,4 +1,4 @@
--- What of a machine doesn't look at its memory.
+-- Serves clause step of PlainMachine::step and Machine::step: what of a machine doesn't look at its memory.
 use Rattle.std.proofs.Common.{◌≡◌, ℕ, ◌+◌, refl, sym, ap, subst, ◌∙◌}
 use Rattle.std.specs.Prelude.{Some, None, slice_get}
 use Rattle.std.specs.declared.option.Option.{Option}
@@ -13,11 +13,11 @@ use Rattle.strand_rules.specs.Visible.{Program}
 use Rattle.strand_rules.specs.declared.turn.Turn.{Turn}
 use Rattle.strand_rules.specs.declared.turn.Turn.TheVariants.{Done, Bubble, Fault}
 use Rattle.strand_rules.specs.Cycle.{State, made_turn, item_turn, send_turn, write_turn, turn, front, eligible, item_after, send_after, write_after, done_after, after_turn, after}
-use Rattle.strand_rules.specs.Machine.{Machine, Runs, FrontIs, Steps, StoresOk, StoresErr, stored_for, stored_by, stepped}
-use Rattle.strand_rules.specs.Kept.{IsKept}
+use Rattle.strand_rules.specs.Machine.{Machine, NextEffect, FrontIs, StepLeaves, StoresOk, StoresErr, stored_for, stored_by, stepped}
+use Rattle.strand_rules.specs.Kept.{IsKeptMachine}
 use Rattle.strand_rules.specs.Pipeline.{state_with, with_memory}
 
-pub kept_with : (memory : Memory) (m : Machine) → IsKept m → IsKept (with_memory memory m)
+pub kept_with : (memory : Memory) (m : Machine) → IsKeptMachine m → IsKeptMachine (with_memory memory m)
 kept_with memory m kept = record {
   cores = kept.cores;
   few_volatile = kept.few_volatile;
@@ -34,7 +34,7 @@ kept_with memory m kept = record {
   sent = kept.sent;
 }
 
-pub runs_without : (memory : Memory) (m : Machine) (n : ℕ) (effect : Effect) → Runs (with_memory memory m) n effect → Runs m n effect
+pub runs_without : (memory : Memory) (m : Machine) (n : ℕ) (effect : Effect) → NextEffect (with_memory memory m) n effect → NextEffect m n effect
 runs_without memory m n effect runs = record {
   core = runs.core;
   there = runs.there;
@@ -123,17 +123,17 @@ module _ (memory : Memory) where
   stored_by_with s (Send n b j) = refl
   stored_by_with s (Write j) = stored_with memory s (slice_get s.flight j)
 
-  steps_beside : (old new : Machine) (bank bank' : BankSeen) (step : Step) (t : Turn) → MovesNoCore step → Steps old new bank bank' step t
-      → Steps (with_memory memory old) (with_memory memory new) bank bank' step t
+  steps_beside : (old new : Machine) (bank bank' : BankSeen) (step : Step) (t : Turn) → MovesNoCore step → StepLeaves old new bank bank' step t
+      → StepLeaves (with_memory memory old) (with_memory memory new) bank bank' step t
   steps_beside old new bank bank' step (Fault m) moves (turned, same, stores) = (
     turn_with old.config old.program old.state step moves ∙ turned,
     ap (with_memory memory) same,
     subst (λ o. StoresErr o bank bank' m) (sym (stored_by_with old.state step)) stores,
   )
-  steps_beside old new bank bank' step (Bubble cause) moves (turned, same, told) = (
+  steps_beside old new bank bank' step (Bubble cause) moves (turned, same, bank_same) = (
     turn_with old.config old.program old.state step moves ∙ turned,
     ap (with_memory memory) same ∙ stepped_with old step moves,
-    told,
+    bank_same,
   )
   steps_beside old new bank bank' step Done moves (turned, same, stores) = (
     turn_with old.config old.program old.state step moves ∙ turned,
@@ -142,7 +142,7 @@ module _ (memory : Memory) where
   )
 
   -- a step of no core does with a memory what it does without
-  pub steps_with : (old new whole : Machine) (bank bank' : BankSeen) (step : Step) (t : Turn) → MovesNoCore step → with_memory memory old ≡ whole → Steps old new bank bank' step t
-      → Steps whole (with_memory memory new) bank bank' step t
+  pub steps_with : (old new whole : Machine) (bank bank' : BankSeen) (step : Step) (t : Turn) → MovesNoCore step → with_memory memory old ≡ whole → StepLeaves old new bank bank' step t
+      → StepLeaves whole (with_memory memory new) bank bank' step t
   steps_with old new whole bank bank' step t moves is steps =
-      subst (λ (m : Machine). Steps m (with_memory memory new) bank bank' step t) is (steps_beside old new bank bank' step t moves steps)
+      subst (λ (m : Machine). StepLeaves m (with_memory memory new) bank bank' step t) is (steps_beside old new bank bank' step t moves steps)

@@ -12,8 +12,8 @@ use Rattle.strand_exec.specs.Memory.{Memory}
 use Rattle.strand_exec.specs.declared.planned.Plan.{Plan}
 use Rattle.strand_events.specs.declared.event.Event.{Event}
 use Rattle.strand_events.specs.Trace.{is_access, is_persist, is_barrier, is_new_strand, is_join, core_at, word_at, value_at, event_is, core_event_is, strand_number, same_strand, epoch}
-use Rattle.strand_events.specs.Order.{Set, held, conflicts}
-use Rattle.strand_base.specs.Places.{place_of}
+use Rattle.strand_events.specs.Order.{Set, set_of, conflicts}
+use Rattle.strand_base.specs.Places.{persistent_place}
 use Rattle.strand_events.specs.Waits.{is_met}
 use Rattle.strand_inputs.specs.declared.conflict.Conflict.{Conflict}
 use Rattle.strand_inputs.specs.declared.conflict.Conflict.TheVariants.{Stall, Tag}
@@ -41,7 +41,7 @@ abbrev pub start_at : List cores.Core → Memory → State
 start_at cores memory = record { now = record { cores = cores; memory = memory; trace = [] }; retired = []; dispatched = replicate (length cores) 0; buffered = []; flight = []; durable = [] }
 
 abbrev pub durable_set : State → Set
-durable_set s = held s.durable
+durable_set s = set_of s.durable
 
 -- what a core's queue carries: its persists, under epoch also its barriers, under strand also its begins of strands
 abbrev pub is_item : Mode → Event → Bool
@@ -84,7 +84,7 @@ join_unmet Tag mode t durable n = some_unmet mode t durable n
 
 -- core n's queue isn't empty, or some persist of core n isn't durable, or under tag the wait of some access of core n isn't met
 abbrev pub join_waits : Settings → State → ℕ → Bool
-join_waits g s n = not (queued g s n == 0) || some_wait s.now.trace (held s.durable) n (length s.now.trace) || join_unmet g.conflict g.mode s.now.trace (held s.durable) n
+join_waits g s n = not (queued g s n == 0) || some_wait s.now.trace (set_of s.durable) n (length s.now.trace) || join_unmet g.conflict g.mode s.now.trace (set_of s.durable) n
 
 -- under stall an access waits for what the accesses of other strands that conflict with it wait for
 abbrev pub access_waits : Conflict → Mode → List Event → Set → Event → Bool
@@ -95,7 +95,7 @@ access_waits Tag mode t durable e = false
 abbrev pub event_turn : Settings → State → ℕ → Event → Turn
 event_turn g s n e =
     if is_join e && join_waits g s n then Bubble causes.Join
-    else if access_waits g.conflict g.mode s.now.trace (held s.durable) e then Bubble causes.Conflict
+    else if access_waits g.conflict g.mode s.now.trace (set_of s.durable) e then Bubble causes.Conflict
     else if is_item g.mode e && (queued g s n == g.queue) then Bubble causes.Queue
     else Done
 
@@ -123,7 +123,7 @@ is_of_ring g s n k p = is_accepted g s n p && same_strand g.mode s.now.trace p k
 
 -- how many places of its strand's ring are in use: its dispatched persists from the oldest one that isn't durable on
 abbrev pub ring_use : Settings → State → ℕ → ℕ → ℕ
-ring_use g s n k = count_below (length s.now.trace) (λ p. is_of_ring g s n k p && any_below (suc p) (λ q. is_of_ring g s n k q && not (held s.durable q)))
+ring_use g s n k = count_below (length s.now.trace) (λ p. is_of_ring g s n k p && any_below (suc p) (λ q. is_of_ring g s n k q && not (set_of s.durable q)))
 
 -- the buffer of a strand
 abbrev pub buffer_of : Settings → ℕ → ℕ
@@ -131,7 +131,7 @@ buffer_of g strand = strand % g.buffers
 
 -- a dispatched persist of core n in buffer b isn't durable
 abbrev pub buffer_busy : Settings → State → ℕ → ℕ → Bool
-buffer_busy g s n b = any_below (length s.now.trace) (λ p. is_accepted g s n p && (buffer_of g (strand_number g.mode s.now.trace p) == b) && not (held s.durable p))
+buffer_busy g s n b = any_below (length s.now.trace) (λ p. is_accepted g s n p && (buffer_of g (strand_number g.mode s.now.trace p) == b) && not (set_of s.durable p))
 
 -- A begin of a strand is an event of the strand before, so the number that it begins is one more than its own.
 abbrev pub item_turn : Settings → State → ℕ → Option ℕ → Turn
@@ -147,15 +147,15 @@ is_lower mode t durable q p = event_is is_persist t q && same_strand mode t q p 
 
 -- some persist of a lower epoch of p's strand isn't durable
 abbrev pub epoch_waits : Settings → State → ℕ → Bool
-epoch_waits g s p = any_below (length s.now.trace) (λ q. is_lower g.mode s.now.trace (held s.durable) q p)
+epoch_waits g s p = any_below (length s.now.trace) (λ q. is_lower g.mode s.now.trace (set_of s.durable) q p)
 
 -- an earlier buffered persist of p's strand has the same word
 abbrev pub word_waits : Settings → State → ℕ → Bool
-word_waits g s p = any_below p (λ q. held s.buffered q && same_strand g.mode s.now.trace q p && (word_at s.now.trace q == word_at s.now.trace p))
+word_waits g s p = any_below p (λ q. set_of s.buffered q && same_strand g.mode s.now.trace q p && (word_at s.now.trace q == word_at s.now.trace p))
 
 -- event p is a buffered persist in buffer b of core n
 abbrev pub is_in_buffer : Settings → State → ℕ → ℕ → ℕ → Bool
-is_in_buffer g s n b p = held s.buffered p && (core_at s.now.trace p == n) && (buffer_of g (strand_number g.mode s.now.trace p) == b)
+is_in_buffer g s n b p = set_of s.buffered p && (core_at s.now.trace p == n) && (buffer_of g (strand_number g.mode s.now.trace p) == b)
 
 -- under tag a persist waits in its buffer until its wait is met
 abbrev pub persist_unmet : Conflict → Mode → List Event → Set → ℕ → Bool
@@ -163,7 +163,7 @@ persist_unmet Stall mode t durable p = false
 persist_unmet Tag mode t durable p = not (is_met mode t durable p)
 
 abbrev pub is_eligible : Settings → State → ℕ → ℕ → ℕ → Bool
-is_eligible g s n b p = is_in_buffer g s n b p && not (epoch_waits g s p) && not (word_waits g s p) && not (persist_unmet g.conflict g.mode s.now.trace (held s.durable) p)
+is_eligible g s n b p = is_in_buffer g s n b p && not (epoch_waits g s p) && not (word_waits g s p) && not (persist_unmet g.conflict g.mode s.now.trace (set_of s.durable) p)
 
 -- the eligible persists of buffer b of core n, in trace order
 abbrev pub eligible : Settings → State → ℕ → ℕ → List ℕ
@@ -242,19 +242,19 @@ abbrev pub after : Settings → Program → State → Step → State
 after g p s step = after_turn (turn g p s step) s (done_after g p s step)
 
 -- the state after some steps
-abbrev pub run : Settings → Program → State → List Step → State
-run g p s [] = s
-run g p s (step ∷ steps) = run g p (after g p s step) steps
+abbrev pub after_steps : Settings → Program → State → List Step → State
+after_steps g p s [] = s
+after_steps g p s (step ∷ steps) = after_steps g p (after g p s step) steps
 
 -- a run reaches the state
 abbrev pub IsReached : Settings → Program → State → Type 0
-IsReached g p s = (cores : List cores.Core) × (memory : Memory) × (steps : List Step) × (s ≡ run g p (start_at cores memory) steps)
+IsReached g p s = (cores : List cores.Core) × (memory : Memory) × (steps : List Step) × (s ≡ after_steps g p (start_at cores memory) steps)
 
 -- what a store puts: the place among the persistent words, and the value
-pub record Request : Type 0 where
+pub record WordStore : Type 0 where
   pub place : ℕ
   pub value : ℕ
 
 -- what a store of event k puts
-abbrev pub request_of : State → ℕ → Request
-request_of s k = record { place = place_of (word_at s.now.trace k); value = value_at s.now.trace k }
+abbrev pub word_store_of : State → ℕ → WordStore
+word_store_of s k = record { place = persistent_place (word_at s.now.trace k); value = value_at s.now.trace k }

@@ -1,16 +1,17 @@
 -- What a machine keeps: the room it took, its regions' sizes, and what its marks and requests name.
 use Rattle.std.specs.Prelude.{◌≡◌, ℕ, ◌^◌, ◌<◌, ◌≤◌, true, length, slice_index, vec_capacity}
+use Rattle.strand_base.specs.declared.limits.TheConstants.{MOST_MEMORY, MOST_CORES}
 use Rattle.strand_events.specs.Trace.{is_persist, event_is}
-use Rattle.strand_events.specs.Order.{held}
+use Rattle.strand_events.specs.Order.{set_of}
 use Rattle.strand_events.specs.Places.{LieIn}
 use Rattle.strand_rules.specs.declared.pipeline.Pipeline.TheInside.{Inside}
 use Rattle.strand_rules.specs.Machine.{Machine, durable_persists}
 use Rattle.strand_rules.specs.Pipeline.{no_memory, IsReachedWithSome}
 
 -- what a step needs of a machine, and keeps
-pub record IsKept (m : Machine) : Type 0 where
-  pub cores : length m.state.now.cores ≤ 4
-  pub few_volatile : m.program.sizes.volatile ≤ 1048576
+pub record IsKeptMachine (m : Machine) : Type 0 where
+  pub cores : length m.state.now.cores ≤ MOST_CORES
+  pub few_volatile : m.program.sizes.volatile ≤ MOST_MEMORY
   pub placed : LieIn m.state.now.trace m.program.sizes.persistent
   pub made_within : m.made ≤ m.steps
   pub few_steps : m.steps < 2 ^ 32
@@ -21,7 +22,7 @@ pub record IsKept (m : Machine) : Type 0 where
   pub durable : length m.state.durable ≡ length m.state.now.trace
   pub few_sent : length m.state.flight ≤ m.config.flight
   -- buffered events and those in flight are persists
-  pub waiting : (p : ℕ) → held m.state.buffered p ≡ true → event_is is_persist m.state.now.trace p ≡ true
+  pub waiting : (p : ℕ) → set_of m.state.buffered p ≡ true → event_is is_persist m.state.now.trace p ≡ true
   pub sent : (i : ℕ) → i < length m.state.flight → event_is is_persist m.state.now.trace (slice_index m.state.flight i) ≡ true
 
 -- the machine of the fields, with no memory
@@ -42,8 +43,8 @@ seen m = record {
 }
 
 -- A run reaches the machine's state, with some memory. The machine has room for all its steps, and marks each persist as durable or not.
-pub record IsHeld (m : Inside) : Type 0 where
-  pub kept : IsKept (seen m)
+pub record IsKeptPipeline (m : Inside) : Type 0 where
+  pub kept : IsKeptMachine (seen m)
   pub reached : IsReachedWithSome (seen m).config (seen m).program (seen m).state
   pub persisted : m.persisted.items ≡ durable_persists (seen m).state
   pub room : m.trace.room ≡ m.steps

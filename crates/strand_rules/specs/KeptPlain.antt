@@ -12,7 +12,7 @@ abbrev pub seen : Inside → Machine
 seen m = with_memory m.memory m.pipeline
 
 -- A run reaches the machine's state, and the memory has the regions of its program. Under tag the waits of the events are kept, with room for all steps.
-pub record IsHeld (m : Inside) : Type 0 where
+pub record IsKeptPlainMachine (m : Inside) : Type 0 where
   pub extents : extents_of m.memory ≡ m.pipeline.program.sizes
   pub reached : IsReached (seen m).config (seen m).program (seen m).state
   pub waits : AreKeptWaits m.pipeline.config.conflict m.pipeline.config.mode m.pipeline.state.now.trace m.waits.items

@@ -9,4 +9,4 @@ pub mod Looking
 pub mod Next
 pub mod Kept
 pub mod KeptPlain
-pub mod Parts
+pub mod DispatchedPersists

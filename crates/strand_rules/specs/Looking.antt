@@ -1,15 +1,13 @@
--- The rules for an event that isn't in the trace yet, and the parts of a state that the rules look back over.
+-- The rules for an event that isn't in the trace yet, and what the rules find in the trace for an event of it.
 use Rattle.std.specs.Prelude.{ℕ, suc, ◌+◌, ◌%◌, Bool, true, false, ◌&&◌, ◌||◌, not, ◌==◌, List, [], ◌∷◌, ◌++◌, length, slice_set, Some, None, if◌then◌else◌}
 use Rattle.std.specs.declared.option.Option.{Option}
-use Rattle.strand_inputs.specs.Settings.{Settings}
-use Rattle.strand_inputs.specs.declared.conflict.Conflict.{Conflict}
 use Rattle.strand_inputs.specs.declared.mode.Mode.{Mode}
 use Rattle.strand_inputs.specs.declared.mode.Mode.TheVariants.{Strict, Epoch, Strand}
 use Rattle.strand_base.specs.Counting.{any_below, count_below}
 use Rattle.strand_events.specs.declared.event.Event.{Event}
 use Rattle.strand_events.specs.Trace.{is_store, is_access, is_persist, is_new_strand, core_of, word_of, core_at, word_at, event_is, core_event_is, strand_number, same_strand}
 use Rattle.strand_events.specs.Order.{Set}
-use Rattle.strand_rules.specs.Cycle.{State, some_wait}
+use Rattle.strand_rules.specs.Cycle.{some_wait}
 
 -- the strand number of the core's next event
 abbrev pub next_strand : Mode → List Event → ℕ → ℕ
@@ -32,10 +30,6 @@ holds_up mode t durable e a = opposes mode t e a && some_wait t durable (core_at
 abbrev pub must_stall : Mode → List Event → Set → Event → Bool
 must_stall mode t durable e = any_below (length t) (holds_up mode t durable e)
 
--- settings with this mode, so many buffers and this rule of conflicts
-abbrev pub settings_of : Mode → ℕ → Conflict → Settings
-settings_of mode buffers conflict = record { mode = mode; queue = 0; buffers = buffers; ring = 0; flight = 0; sets = 0; ways = 0; conflict = conflict }
-
 -- event p is a persist of core n in the strand of event k
 abbrev pub is_of_strand : Mode → List Event → ℕ → ℕ → ℕ → Bool
 is_of_strand mode t n k p = core_event_is is_persist n t p && same_strand mode t p k
@@ -51,17 +45,6 @@ is_in_use mode t durable n k p = is_of_strand mode t n k p && any_below (suc p) 
 -- event p is a persist of core n in buffer b of so many that isn't durable
 abbrev pub is_busy : Mode → ℕ → List Event → Set → ℕ → ℕ → ℕ → Bool
 is_busy mode buffers t durable n b p = core_event_is is_persist n t p && (strand_number mode t p % buffers == b) && not (durable p)
-
--- a state of these parts
-abbrev pub state_of : List Event → List ℕ → List Bool → List ℕ → List Bool → State
-state_of t dispatched buffered flight durable = record {
-  now = record { cores = []; memory = record { volatile = []; persistent = [] }; trace = t };
-  retired = [];
-  dispatched = dispatched;
-  buffered = buffered;
-  flight = flight;
-  durable = durable;
-}
 
 -- a new persist has no mark among the persists
 abbrev pub persists_unmarked : List Bool → Option Event → List Bool

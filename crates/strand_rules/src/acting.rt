@@ -1,5 +1,6 @@
 // What an instruction does to the memory and the trace.
 ghost use Rattle.std.specs.Prelude.{◌≡◌, ◌<◌, ◌≤◌, ◌++◌, [], ◌∷◌, IfSome, length, vec_len, vec_capacity, if◌then◌else◌};
+ghost use Rattle.strand_base.specs.declared.limits.TheConstants.{CORE_ROOM};
 ghost use Rattle.strand_exec.specs.Memory.{Memory, extents_of};
 ghost use Rattle.strand_exec.specs.Plan.{IsPlaced};
 ghost use Rattle.strand_events.specs.Fits.{EventFits};
@@ -8,13 +9,14 @@ ghost use Rattle.strand_rules.specs.Cycle.{unmarked};
 ghost use Rattle.strand_rules.specs.Looking.{persists_unmarked};
 ghost use Rattle.strand_rules.specs.Pipeline.{overwritten};
 
+use strand_base::PERSISTENT_BASE;
 use strand_events::{Event, Trace};
-use strand_exec::{FlatMemory, PERSISTENT_BASE, Plan, merged};
+use strand_exec::{FlatMemory, Plan, merged};
 
 /// The event that core n's instruction with this plan makes, if any. `before` is the word that a store
 /// finds, and isn't used else.
 pub fn made_event(core: u32, plan: Plan, before: u64) -> Option<Event>
-    requires { core < 8 }
+    requires { core < CORE_ROOM }
     ensures event { (memory : Memory) → before ≡ overwritten memory plan
         → result ≡ event_of core memory plan }
     ensures fits { IfSome result EventFits }

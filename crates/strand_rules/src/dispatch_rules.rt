@@ -1,120 +1,125 @@
-// What the rules of a dispatch find in the trace.
-ghost use Rattle.std.specs.Prelude.{◌≡◌, ◌<◌, ◌≤◌, ◌^◌, length, slice_get, IfSome};
-ghost use Rattle.strand_base.specs.Counting.{count_below, any_below};
-ghost use Rattle.strand_events.specs.Trace.{same_strand, core_event_is};
-ghost use Rattle.strand_events.specs.Order.{held};
-ghost use Rattle.strand_rules.specs.Cycle.{items, is_item};
-ghost use Rattle.strand_rules.specs.Looking.{is_of_strand, is_in_use, is_busy};
+// What the rules of a dispatch find in the past.
+ghost use Rattle.std.specs.Prelude.{◌≡◌, ◌<◌, ◌+◌, length, Some, IfSome};
+ghost use Rattle.strand_events.specs.Trace.{core_event_is, strand_number};
+ghost use Rattle.strand_events.specs.Order.{set_of};
+ghost use Rattle.strand_rules.specs.Cycle.{is_item, front, ring_use, buffer_of, buffer_busy, item_turn};
+ghost use Rattle.strand_rules.specs.Looking.{is_of_strand, is_busy};
 
 use crate::items::{is_core_item, is_core_persist};
-use strand_events::{Event, Trace};
-use strand_inputs::Mode;
+use crate::past::Past;
+use crate::turn::{Cause, Turn};
 
-// Whether event k is an item of core n.
-fn is_item_at(events: &[Event], mode: Mode, n: u32, k: usize) -> bool
-    requires { k < length events.now }
-    ensures { result ≡ core_event_is (is_item mode) n events.now k }
-{
-    is_core_item(mode, events[k], n)
-}
-
-// The item of core n that has so many of them before it, by its event number.
-pub(crate) fn item_at(events: &[Event], mode: Mode, n: u32, place: u32) -> Option<usize>
-    requires { length events.now < 2 ^ 32 }
-    ensures item { result ≡ slice_get (items mode events.now n) place }
-    ensures within { IfSome result (λ k. k < length events.now) }
-{
-    let mut passed: u32 = 0;
-    for k in 0..events.len() {
-        if is_item_at(events, mode, n, k) {
-            if passed == place {
-                return Some(k);
-            }
-            passed += 1;
-        }
+impl<'a> Past<'a> {
+    /// Whether event k is an item of core n.
+    pub(crate) fn is_item_at(&self, n: u32, k: usize) -> bool
+        requires { k < length self.now.state.now.trace }
+        ensures { result
+            ≡ core_event_is (is_item self.now.config.mode) n self.now.state.now.trace k }
+    {
+        is_core_item(self.mode(), self.events()[k], n)
     }
-    None
-}
 
-// Whether events a and b are of one strand.
-pub(crate) fn same_strand(trace: &Trace, mode: Mode, a: usize, b: usize) -> bool
-    requires a { a < length trace.now.events }
-    requires b { b < length trace.now.events }
-    ensures { result ≡ same_strand mode trace.now.events a b }
-{
-    trace.events()[a].core() == trace.events()[b].core()
-        && trace.strand_of(mode, a) == trace.strand_of(mode, b)
-}
-
-// Whether event p is a persist of core n in the strand of event k.
-fn is_of_strand(trace: &Trace, mode: Mode, n: u32, k: usize, p: usize) -> bool
-    requires k { k < length trace.now.events }
-    requires p { p < length trace.now.events }
-    ensures { result ≡ is_of_strand mode trace.now.events n k p }
-{
-    is_core_persist(trace.events()[p], n) && same_strand(trace, mode, p, k)
-}
-
-// How many places of its ring the strand of core n's event k uses, of the persists before it.
-pub(crate) fn ring_use(trace: &Trace, mode: Mode, durable: &[bool], n: u32, k: usize) -> u32
-    requires event { k < length trace.now.events }
-    requires small { length trace.now.events < 2 ^ 32 }
-    requires marks { length durable.now ≡ length trace.now.events }
-    ensures { result ≡ count_below k (is_in_use mode trace.now.events (held durable.now) n k) }
-{
-    let mut open = false;
-    let mut used: u32 = 0;
-    for p in 0..k {
-        if is_of_strand(trace, mode, n, k, p) {
-            if !durable[p] {
-                open = true;
-            }
-            if open {
-                used += 1;
+    /// The first item of core n's queue, by its event number.
+    pub(crate) fn front(&self, n: u32) -> Option<usize>
+        requires { n < length self.now.state.now.cores }
+        ensures front { result ≡ front self.now.config self.now.state n }
+        ensures within { IfSome result (λ k. k < length self.now.state.now.trace) }
+    {
+        let place = self.gone(n);
+        let mut passed: u32 = 0;
+        for k in 0..self.events().len() {
+            if self.is_item_at(n, k) {
+                if passed == place {
+                    return Some(k);
+                }
+                passed += 1;
             }
         }
+        None
     }
-    used
-}
 
-// Whether event p is a persist of core n in buffer b that isn't durable.
-fn is_busy(
-    trace: &Trace,
-    mode: Mode,
-    buffers: u32,
-    durable: &[bool],
-    n: u32,
-    b: u32,
-    p: usize,
-) -> bool
-    requires some { 0 < buffers }
-    requires p { p < length trace.now.events }
-    requires marks { length durable.now ≡ length trace.now.events }
-    ensures { result ≡ is_busy mode buffers trace.now.events (held durable.now) n b p }
-{
-    is_core_persist(trace.events()[p], n) && trace.strand_of(mode, p) % buffers == b && !durable[p]
-}
+    // Whether event p is a persist of core n in the strand of event k.
+    fn is_of_strand(&self, n: u32, k: usize, p: usize) -> bool
+        requires k { k < length self.now.state.now.trace }
+        requires p { p < length self.now.state.now.trace }
+        ensures { result ≡ is_of_strand self.now.config.mode self.now.state.now.trace n k p }
+    {
+        is_core_persist(self.events()[p], n) && self.same_strand(p, k)
+    }
 
-// Whether a persist of core n before event k is in buffer b and isn't durable.
-pub(crate) fn buffer_busy(
-    trace: &Trace,
-    mode: Mode,
-    buffers: u32,
-    durable: &[bool],
-    n: u32,
-    b: u32,
-    k: usize,
-) -> bool
-    requires some { 0 < buffers }
-    requires event { k < length trace.now.events }
-    requires marks { length durable.now ≡ length trace.now.events }
-    ensures { result ≡ any_below k (is_busy mode buffers trace.now.events (held durable.now) n b) }
-{
-    let mut found = false;
-    for p in 0..k {
-        if is_busy(trace, mode, buffers, durable, n, b, p) {
-            found = true;
+    // How many places of its ring the strand of item k uses, the first of core n's queue.
+    fn ring_use(&self, n: u32, k: usize) -> usize
+        requires within { k < length self.now.state.now.trace }
+        requires front { front self.now.config self.now.state n ≡ Some k }
+        ensures { result ≡ ring_use self.now.config self.now.state n k }
+    {
+        let mut open = false;
+        let mut used = 0;
+        for p in 0..k {
+            if self.is_of_strand(n, k, p) {
+                if !self.durable()[p] {
+                    open = true;
+                }
+                if open {
+                    used += 1;
+                }
+            }
         }
+        used
     }
-    found
+
+    // Whether event p is a persist of core n in buffer b that isn't durable.
+    fn is_busy(&self, n: u32, b: u32, p: usize) -> bool
+        requires { p < length self.now.state.now.trace }
+        ensures { result ≡ is_busy self.now.config.mode self.now.config.buffers
+            self.now.state.now.trace (set_of self.now.state.durable) n b p }
+    {
+        is_core_persist(self.events()[p], n)
+            && self.buffer_of(self.strand_of(p)) == b
+            && !self.durable()[p]
+    }
+
+    // Whether buffer b of core n isn't empty, where event k is the first item of the core's queue.
+    fn buffer_busy(&self, n: u32, b: u32, k: usize) -> bool
+        requires within { k < length self.now.state.now.trace }
+        requires front { front self.now.config self.now.state n ≡ Some k }
+        ensures { result ≡ buffer_busy self.now.config self.now.state n b }
+    {
+        let mut found = false;
+        for p in 0..k {
+            if self.is_busy(n, b, p) {
+                found = true;
+            }
+        }
+        found
+    }
+
+    // Whether the buffer of the strand that item k begins isn't empty, the first of core n's queue.
+    fn next_busy(&self, n: u32, k: usize) -> bool
+        requires within { k < length self.now.state.now.trace }
+        requires front { front self.now.config self.now.state n ≡ Some k }
+        ensures { result ≡ buffer_busy self.now.config self.now.state n (buffer_of self.now.config
+            (strand_number self.now.config.mode self.now.state.now.trace k + 1)) }
+    {
+        self.pipeline.keeps();
+        let next = self.buffer_of(self.strand_of(k) + 1);
+        self.buffer_busy(n, next, k)
+    }
+
+    /// Whether item k of core n, the first of its queue, is dispatched, or why it waits.
+    pub(crate) fn item_turn(&self, n: u32, k: usize) -> Turn
+        requires within { k < length self.now.state.now.trace }
+        requires front { front self.now.config self.now.state n ≡ Some k }
+        ensures { result ≡ item_turn self.now.config self.now.state n (Some k) }
+    {
+        let config = self.config();
+        let event = self.events()[k];
+        if event.is_persist() && self.ring_use(n, k) == config.ring as usize {
+            return Turn::Bubble(Cause::NoRoom);
+        }
+        if event.is_new_strand() && self.next_busy(n, k) {
+            return Turn::Bubble(Cause::NotEmpty);
+        }
+        Turn::Done
+    }
 }

@@ -1,85 +1,25 @@
 // The steps of a core's queue.
 ghost use Rattle.std.specs.Prelude.{◌≡◌, ◌<◌, ◌+◌, ◌-◌, ◌^◌, IfSome, Some, None, if◌then◌else◌, length, slice_index, slice_set, vec_capacity};
-ghost use Rattle.strand_events.specs.Trace.{event_is, is_persist, strand_number};
+ghost use Rattle.strand_events.specs.Trace.{event_is, is_persist};
 ghost use Rattle.strand_inputs.specs.declared.step.Step.TheVariants.{Dispatch};
-ghost use Rattle.strand_rules.specs.Cycle.{turn, front, ring_use, buffer_of, buffer_busy, item_turn, item_after};
+ghost use Rattle.strand_rules.specs.Cycle.{turn, front, item_after};
 ghost use Rattle.strand_rules.specs.Looking.{marked_at};
 ghost use Rattle.strand_rules.specs.Machine.{FrontIs, stepped, made_to};
+ghost use Rattle.strand_rules.specs.Next.{AreKeptWaits};
 ghost use Rattle.strand_rules.specs.Pipeline.{IsReachedWithSome};
 
-use crate::dispatch_rules::{buffer_busy, item_at, ring_use};
-use crate::items::is_persist_at;
+use crate::past::Past;
 use crate::pipeline::Pipeline;
 use crate::turn::{Cause, Turn};
+use strand_base::CORE_ROOM;
 
 impl Pipeline {
-    // The first item of core n's queue.
-    fn front(&self, n: u32) -> Option<usize>
-        requires { n < length self.now.state.now.cores }
-        ensures front { result ≡ front self.now.config self.now.state n }
-        ensures within { IfSome result (λ k. k < length self.now.state.now.trace) }
-    {
-        let config = self.config;
-        item_at(
-            self.trace.events(),
-            config.mode,
-            n,
-            self.dispatched[n as usize],
-        )
-    }
-
-    // How many places of its ring the strand of item k uses, the first of core n's queue.
-    fn ring_use(&self, n: u32, k: usize) -> u32
-        requires within { k < length self.now.state.now.trace }
-        requires front { front self.now.config self.now.state n ≡ Some k }
-        ensures { result ≡ ring_use self.now.config self.now.state n k }
-    {
-        let config = self.config;
-        ring_use(&self.trace, config.mode, &self.durable, n, k)
-    }
-
-    // Whether the buffer of the strand that item k begins isn't empty, the first of core n's queue.
-    fn buffer_busy(&self, n: u32, k: usize) -> bool
-        requires within { k < length self.now.state.now.trace }
-        requires front { front self.now.config self.now.state n ≡ Some k }
-        ensures { result ≡ buffer_busy self.now.config self.now.state n (buffer_of self.now.config (strand_number self.now.config.mode self.now.state.now.trace k + 1)) }
-    {
-        let config = self.config;
-        let buffer = (self.trace.strand_of(config.mode, k) + 1) % config.buffers;
-        buffer_busy(
-            &self.trace,
-            config.mode,
-            config.buffers,
-            &self.durable,
-            n,
-            buffer,
-            k,
-        )
-    }
-
-    // Whether item k of core n, the first of its queue, is dispatched, or why it waits.
-    fn item_turn(&self, n: u32, k: usize) -> Turn
-        requires within { k < length self.now.state.now.trace }
-        requires front { front self.now.config self.now.state n ≡ Some k }
-        ensures { result ≡ item_turn self.now.config self.now.state n (Some k) }
-    {
-        let config = self.config;
-        let event = self.trace.events()[k];
-        if event.is_persist() && self.ring_use(n, k) == config.ring {
-            return Turn::Bubble(Cause::NoRoom);
-        }
-        if event.is_new_strand() && self.buffer_busy(n, k) {
-            return Turn::Bubble(Cause::NotEmpty);
-        }
-        Turn::Done
-    }
-
     // The item, if it is a persist.
     fn persist_in(&self, k: usize) -> Option<usize>
         requires { k < length self.now.state.now.trace }
         ensures { result ≡ (if event_is is_persist self.now.state.now.trace k then Some k else None) }
     {
-        if is_persist_at(self.trace.events(), k) {
+        if self.trace.events()[k].is_persist() {
             Some(k)
         } else {
             None
@@ -100,17 +40,21 @@ impl Pipeline {
         self.made += 1;
     }
 
-    // Core n dispatches the first item of its queue.
-    pub(crate) fn step_dispatch(&mut self, n: u32) -> Turn
+    // Core n dispatches the first item of its queue. These are the waits of the events.
+    pub(crate) fn step_dispatch(&mut self, n: u32, waits: &[[u32; CORE_ROOM]]) -> Turn
         requires room { self.old.made < self.old.steps }
         requires core { n < length self.old.state.now.cores }
+        requires waits { AreKeptWaits self.old.config.conflict self.old.config.mode
+            self.old.state.now.trace waits.now }
         ensures turn { result ≡ turn self.old.config self.old.program self.old.state (Dispatch n) }
         ensures machine { self.new ≡ stepped self.old (Dispatch n) }
     {
-        let Some(k) = self.front(n) else {
+        self.keeps();
+        let past = Past::new(self, waits);
+        let Some(k) = past.front(n) else {
             return self.bubble(Cause::NoItem);
         };
-        let turn = self.item_turn(n, k);
+        let turn = past.item_turn(n, k);
         if let Turn::Done = turn {
             let persist = self.persist_in(k);
             self.dispatch(n, persist);

@@ -1,6 +1,6 @@
 // Which events a core's queue carries.
-ghost use Rattle.std.specs.Prelude.{◌≡◌, ◌<◌, ◌&&◌, ◌==◌, length};
-ghost use Rattle.strand_events.specs.Trace.{event_is, core_of, is_access, is_persist};
+ghost use Rattle.std.specs.Prelude.{◌≡◌, ◌<◌, ◌&&◌, ◌==◌};
+ghost use Rattle.strand_events.specs.Trace.{core_of, is_access, is_persist};
 ghost use Rattle.strand_rules.specs.Cycle.{is_item};
 
 use strand_events::Event;
@@ -15,14 +15,6 @@ pub fn is_item(mode: Mode, event: Event) -> bool
         Mode::Epoch => event.is_persist() || event.is_barrier(),
         Mode::Strand => event.is_persist() || event.is_barrier() || event.is_new_strand(),
     }
-}
-
-// Whether event k is a persist.
-pub(crate) fn is_persist_at(events: &[Event], k: usize) -> bool
-    requires { k < length events.now }
-    ensures { result ≡ event_is is_persist events.now k }
-{
-    events[k].is_persist()
 }
 
 // Whether the event is an item of core n.

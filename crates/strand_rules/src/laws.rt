@@ -1,19 +1,20 @@
 ghost use Rattle.std.specs.Prelude.{◌≡◌, ◌<◌, ◌≤◌, ◌==◌, ◌||◌, ◌++◌, [], ◌∷◌, ℕ, true, List, length, slice_set};
+ghost use Rattle.strand_base.specs.declared.limits.TheConstants.{MOST_MEMORY};
 ghost use Rattle.strand_inputs.specs.Settings.{Settings};
 ghost use Rattle.strand_inputs.specs.declared.step.Step.{Step};
 ghost use Rattle.strand_exec.specs.Core.{Core};
 ghost use Rattle.strand_exec.specs.Memory.{Memory};
 ghost use Rattle.strand_events.specs.declared.event.Event.{Event};
 ghost use Rattle.strand_events.specs.Trace.{is_persist, event_is, word_at, value_at};
-ghost use Rattle.strand_base.specs.Places.{place_of, address_of};
+ghost use Rattle.strand_base.specs.Places.{persistent_place, address_of};
 ghost use Rattle.strand_events.specs.Order.{Set, IsDownwardClosed, HoldsJoined};
 ghost use Rattle.strand_modules.specs.Bank.{BankSeen};
 ghost use Rattle.strand_rules.specs.Images.{persistent_image};
 ghost use Rattle.strand_rules.specs.Visible.{Program, visible};
 ghost use Rattle.strand_rules.specs.declared.turn.Turn.{Turn};
-ghost use Rattle.strand_rules.specs.Cycle.{State, run, start_at, durable_set, turn, IsReached};
-ghost use Rattle.strand_rules.specs.Machine.{Machine, Steps, StandsOn};
-ghost use Rattle.strand_rules.specs.Parts.{AreInOrder, AreParts, AreSettled, AreMet, FitBuffers};
+ghost use Rattle.strand_rules.specs.Cycle.{State, after_steps, start_at, durable_set, turn, IsReached};
+ghost use Rattle.strand_rules.specs.Machine.{Machine, StepLeaves, StandsOn};
+ghost use Rattle.strand_rules.specs.DispatchedPersists.{AreInOrder, AreParts, AreAccounted, AreMet, FitBuffers};
 ghost use Rattle.strand_inputs.specs.declared.mode.Mode.{Mode};
 ghost use Rattle.strand_rules.specs.declared.turn.Cause.TheVariants as causes;
 ghost use Rattle.strand_rules.specs.declared.turn.Turn.TheVariants.{Bubble};
@@ -23,8 +24,9 @@ ghost use Rattle.strand_inputs.specs.declared.conflict.Conflict.TheVariants.{Tag
 /// memory and the trace are those of the visible run over the cores that retired (docs/cycle.md).
 pub fn visible_runs_are_kept()
     ensures { (g : Settings) (p : Program) (cores : List Core) (memory : Memory) (steps : List Step)
-        → (run g p (start_at cores memory) steps).now
-        ≡ visible p (start_at cores memory).now (run g p (start_at cores memory) steps).retired }
+        → (after_steps g p (start_at cores memory) steps).now
+        ≡ visible p (start_at cores memory).now
+        (after_steps g p (start_at cores memory) steps).retired }
 {}
 
 /// The crash theorem, over all settings, every program, every start and every list of steps
@@ -35,15 +37,15 @@ pub fn visible_runs_are_kept()
 pub fn durable_sets_are_allowed()
     ensures closed { (g : Settings) (p : Program) (cores : List Core) (memory : Memory)
         (steps : List Step)
-        → IsDownwardClosed g.mode (run g p (start_at cores memory) steps).now.trace
-        (durable_set (run g p (start_at cores memory) steps)) }
+        → IsDownwardClosed g.mode (after_steps g p (start_at cores memory) steps).now.trace
+        (durable_set (after_steps g p (start_at cores memory) steps)) }
     ensures joined { (g : Settings) (p : Program) (cores : List Core) (memory : Memory)
         (steps : List Step)
-        → HoldsJoined (run g p (start_at cores memory) steps).now.trace
-        (durable_set (run g p (start_at cores memory) steps)) }
+        → HoldsJoined (after_steps g p (start_at cores memory) steps).now.trace
+        (durable_set (after_steps g p (start_at cores memory) steps)) }
     ensures stands { (old new : Machine) (step : Step) (turn : Turn) (bank bank' : BankSeen)
-        → IsReached old.config old.program old.state → old.program.sizes.volatile ≤ 1048576
-        → Steps old new bank bank' step turn
+        → IsReached old.config old.program old.state → old.program.sizes.volatile ≤ MOST_MEMORY
+        → StepLeaves old new bank bank' step turn
         → StandsOn old.program.sizes.persistent old.state new.state bank bank' }
 {}
 
@@ -60,9 +62,10 @@ pub fn images_follow_the_trace()
         → event_is is_persist t p ≡ true
         → ((q : ℕ) → p < q → event_is is_persist t q ≡ true → word_at t q ≡ word_at t p
         → set q ≡ true → ⊥)
-        → place_of (word_at t p) < length words → word_at t p ≡ address_of (place_of (word_at t p))
+        → persistent_place (word_at t p) < length words → word_at t p
+        ≡ address_of (persistent_place (word_at t p))
         → persistent_image words t (λ k. (k == p) || set k)
-        ≡ slice_set (persistent_image words t set) (place_of (word_at t p)) (value_at t p) }
+        ≡ slice_set (persistent_image words t set) (persistent_place (word_at t p)) (value_at t p) }
 {}
 
 /// What holds of every state that a run reaches (docs/cycle.md): the buffered persists, those in
@@ -71,10 +74,10 @@ pub fn images_follow_the_trace()
 /// (`met`); persists are sent by epochs and written by their order (`in_order`); and buffers hold
 /// one strand each, rings and requests no more than the settings say (`buffers`). And of every
 /// trace (docs/waits.md): a persist before an access is one that its wait counts, or is of its
-/// strand and has a lower epoch or its word (`settled`).
+/// strand and has a lower epoch or its word (`accounted`).
 pub fn parts_are_kept()
     ensures parts { (g : Settings) (p : Program) (s : State) → IsReached g p s → AreParts g s }
-    ensures settled { (mode : Mode) (t : List Event) → AreSettled mode t }
+    ensures accounted { (mode : Mode) (t : List Event) → AreAccounted mode t }
     ensures met { (g : Settings) (p : Program) (s : State) → IsReached g p s
         → AreMet g.conflict g.mode s.now.trace s.flight (durable_set s) }
     ensures in_order { (g : Settings) (p : Program) (s : State) → IsReached g p s

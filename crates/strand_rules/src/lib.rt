@@ -5,12 +5,15 @@
 #![tactic(auto)]
 
 mod acting;
+mod conflict_rules;
 mod core_rules;
 mod core_steps;
 mod dispatch_rules;
 mod dispatch_steps;
 mod items;
 mod laws;
+mod met;
+mod past;
 mod pipeline;
 mod plain_machine;
 mod plain_steps;
@@ -18,8 +21,8 @@ mod send_rules;
 #[cfg(test)]
 mod tests;
 mod turn;
-mod wait_rules;
 mod waits;
+mod write_rules;
 mod write_steps;
 
 pub use acting::made_event;

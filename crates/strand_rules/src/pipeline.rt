@@ -1,10 +1,11 @@
 ghost use Rattle.std.specs.Prelude.{◌≡◌, ◌<◌, ◌≤◌, IfOk, Some, All, map, length, replicate, slice_get};
+ghost use Rattle.strand_base.specs.declared.limits.TheConstants.{MOST_STEPS, MOST_CODE, MOST_CORES};
 ghost use Rattle.strand_exec.specs.Core.{fresh};
 ghost use Rattle.strand_events.specs.Fits.{AllFit};
 ghost use Rattle.strand_events.specs.Order.{HoldsJoined, IsDownwardClosed};
 ghost use Rattle.strand_events.specs.Places.{LieIn};
 ghost use Rattle.strand_rules.specs.Cycle.{durable_set};
-ghost use Rattle.strand_rules.specs.Kept.{IsKept};
+ghost use Rattle.strand_rules.specs.Kept.{IsKeptMachine};
 ghost use Rattle.strand_rules.specs.Machine.{machine_at, made_to, durable_persists};
 ghost use Rattle.strand_rules.specs.Pipeline.{IsReachedWithSome, no_memory, with_memory};
 
@@ -43,11 +44,11 @@ impl Model for Pipeline {
 
     ghost Value = { Machine };
 
-    ghost use Rattle.strand_rules.specs.Kept.{seen, IsHeld};
+    ghost use Rattle.strand_rules.specs.Kept.{seen, IsKeptPipeline};
 
     ghost view = { seen };
 
-    ghost invariant = { IsHeld };
+    ghost invariant = { IsKeptPipeline };
 }
 
 impl Pipeline {
@@ -59,7 +60,7 @@ impl Pipeline {
         image: &Image,
         steps: u64,
     ) -> Result<Pipeline, OutOfMemory>
-        requires { steps ≤ 200000 }
+        requires { steps ≤ MOST_STEPS }
         ensures { IfOk result (λ m. m
             ≡ with_memory no_memory (machine_at config.now image.now steps)) }
     {
@@ -123,7 +124,7 @@ impl Pipeline {
     /// The cores.
     pub fn cores(&self) -> &[CoreState]
         ensures cores { result.now ≡ self.now.state.now.cores }
-        ensures few { length result.now ≤ 4 }
+        ensures few { length result.now ≤ MOST_CORES }
     {
         &self.cores
     }
@@ -155,7 +156,7 @@ impl Pipeline {
     /// buffer (`buffers`).
     pub fn keeps(&self)
         ensures reached { IsReachedWithSome self.now.config self.now.program self.now.state }
-        ensures kept { IsKept self.now }
+        ensures kept { IsKeptMachine self.now }
         ensures fits { AllFit self.now.state.now.trace }
         ensures buffers { 0 < self.now.config.buffers }
     {
@@ -177,7 +178,7 @@ impl Pipeline {
 
 // The cores at their entries.
 fn fresh_cores(alloc: Global, entries: &[u32]) -> Result<Vec<CoreState>, OutOfMemory>
-    requires { All (λ e. e < 65536) entries.now }
+    requires { All (λ e. e < MOST_CODE) entries.now }
     ensures { IfOk result (λ cores. cores.items ≡ map fresh entries.now) }
 {
     let cores: Vec<CoreState> = entries.iter().map(|e| CoreState::new(*e)).collect(alloc)?;

@@ -1,4 +1,5 @@
 ghost use Rattle.std.specs.Prelude.{◌≡◌, ◌<◌, ◌≤◌, IfOk, Some, length, slice_get};
+ghost use Rattle.strand_base.specs.declared.limits.TheConstants.{MOST_STEPS, MOST_CORES};
 ghost use Rattle.strand_inputs.specs.Schedule.{IsBelow};
 ghost use Rattle.strand_events.specs.Order.{HoldsJoined, IsDownwardClosed};
 ghost use Rattle.strand_events.specs.Places.{LieIn};
@@ -7,13 +8,13 @@ ghost use Rattle.strand_inputs.specs.declared.conflict.Conflict.TheVariants.{Tag
 ghost use Rattle.strand_rules.specs.declared.turn.Cause.TheVariants as causes;
 ghost use Rattle.strand_rules.specs.declared.turn.Turn.TheVariants.{Bubble};
 ghost use Rattle.strand_rules.specs.Cycle.{durable_set};
-ghost use Rattle.strand_rules.specs.Machine.{machine_at, durable_persists, SameSetup, StandsOn, Steps};
+ghost use Rattle.strand_rules.specs.Machine.{machine_at, durable_persists, SameSetup, StandsOn, StepLeaves};
 
 use crate::pipeline::Pipeline;
 use crate::turn::Turn;
 use std::alloc::Global;
 use std::marker::Model;
-use strand_base::OutOfMemory;
+use strand_base::{CORE_ROOM, OutOfMemory};
 use strand_events::Trace;
 use strand_exec::{CoreState, FlatMemory, Sizes};
 use strand_image::Image;
@@ -28,7 +29,7 @@ pub struct PlainMachine {
     pub(crate) pipeline: Pipeline,
     pub(crate) memory: FlatMemory,
     // the wait of each event under tag, and none under stall
-    pub(crate) waits: Vec<[u32; 8]>,
+    pub(crate) waits: Vec<[u32; CORE_ROOM]>,
 }
 
 impl Model for PlainMachine {
@@ -36,11 +37,11 @@ impl Model for PlainMachine {
 
     ghost Value = { Machine };
 
-    ghost use Rattle.strand_rules.specs.KeptPlain.{seen, IsHeld};
+    ghost use Rattle.strand_rules.specs.KeptPlain.{seen, IsKeptPlainMachine};
 
     ghost view = { seen };
 
-    ghost invariant = { IsHeld };
+    ghost invariant = { IsKeptPlainMachine };
 }
 
 impl PlainMachine {
@@ -52,7 +53,7 @@ impl PlainMachine {
         image: &Image,
         steps: u64,
     ) -> Result<PlainMachine, OutOfMemory>
-        requires { steps ≤ 200000 }
+        requires { steps ≤ MOST_STEPS }
         ensures { IfOk result (λ m. m ≡ machine_at config.now image.now steps) }
     {
         Ok(PlainMachine {
@@ -99,7 +100,7 @@ impl PlainMachine {
     /// The cores.
     pub fn cores(&self) -> &[CoreState]
         ensures cores { result.now ≡ self.now.state.now.cores }
-        ensures few { length result.now ≤ 4 }
+        ensures few { length result.now ≤ MOST_CORES }
     {
         self.pipeline.cores()
     }
@@ -143,7 +144,7 @@ impl PlainMachine {
         requires room { self.old.made < self.old.steps }
         requires step { IsBelow (length self.old.state.now.cores) self.old.config.buffers step }
         requires bank { self.old.program.sizes.persistent ≤ (bank_seen holds bank.old).size }
-        ensures step { Steps self.old self.new (bank_seen holds bank.old) (bank_seen holds bank.new) step result }
+        ensures step { StepLeaves self.old self.new (bank_seen holds bank.old) (bank_seen holds bank.new) step result }
         ensures tagged { self.old.config.conflict ≡ Tag → result ≡ Bubble causes.Conflict → ⊥ }
         ensures setup { SameSetup self.old self.new (bank_seen holds bank.old) (bank_seen holds bank.new) }
         ensures stands { StandsOn self.old.program.sizes.persistent self.old.state self.new.state
@@ -152,7 +153,7 @@ impl PlainMachine {
         self.pipeline.keeps();
         match step {
             Step::Core(n) => self.step_core(n),
-            Step::Dispatch(n) => self.pipeline.step_dispatch(n),
+            Step::Dispatch(n) => self.pipeline.step_dispatch(n, &self.waits),
             Step::Send(n, b, j) => self.pipeline.step_send(n, b, j, &self.waits),
             Step::Write(j) => self.pipeline.step_write(j, bank),
         }

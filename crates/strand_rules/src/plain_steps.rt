@@ -5,13 +5,14 @@ ghost use Rattle.strand_exec.specs.Plan.{asked, IsPlaced};
 ghost use Rattle.strand_inputs.specs.declared.step.Step.TheVariants.{Core};
 ghost use Rattle.strand_rules.specs.Visible.{event_of};
 ghost use Rattle.strand_rules.specs.Cycle.{turn, core_after, IsReached};
-ghost use Rattle.strand_rules.specs.Machine.{stepped, made_to, Runs};
+ghost use Rattle.strand_rules.specs.Machine.{stepped, made_to, NextEffect};
 ghost use Rattle.strand_rules.specs.Next.{IsNextWait, waited};
 
 use crate::PlainMachine;
 use crate::acting::{act, made_event, overwritten};
+use crate::past::Past;
 use crate::turn::{Cause, Turn};
-use crate::wait_rules::wait_of;
+use strand_base::CORE_ROOM;
 use strand_events::Event;
 use strand_exec::{Effect, Plan, asked};
 
@@ -28,24 +29,17 @@ impl PlainMachine {
     }
 
     // The wait of the next event under tag, if there is an event.
-    fn next_wait(&self, event: Option<Event>) -> Option<[u32; 8]>
+    fn next_wait(&self, event: Option<Event>) -> Option<[u32; CORE_ROOM]>
         ensures { IsNextWait self.now.config.conflict self.now.config.mode
             self.now.state.now.trace event result }
     {
-        let config = self.pipeline.config();
-        wait_of(
-            self.pipeline.trace(),
-            config.mode,
-            config.conflict,
-            &self.waits,
-            event,
-        )
+        Past::new(&self.pipeline, &self.waits).wait_of(event)
     }
 
     // Core n, which runs, retires its instruction, which makes this event.
     fn retire(&mut self, n: u32, effect: Effect, plan: Plan, event: Option<Event>)
         requires room { self.old.made < self.old.steps }
-        requires runs { Runs self.old n effect }
+        requires runs { NextEffect self.old n effect }
         requires plan { plan ≡ asked effect }
         requires placed { IsPlaced self.old.program.sizes plan }
         requires event { event ≡ event_of n self.old.state.now.memory plan }
@@ -74,7 +68,7 @@ impl PlainMachine {
         };
         let plan = asked(effect, self.pipeline.sizes());
         let event = self.next_event(n, plan);
-        let turn = self.pipeline.made_turn(n, event, &self.waits);
+        let turn = Past::new(&self.pipeline, &self.waits).made_turn(n, event);
         match turn {
             Turn::Done => self.retire(n, effect, plan, event),
             Turn::Bubble(cause) => {
@@ -87,7 +81,7 @@ impl PlainMachine {
 }
 
 // Keeps the wait of an event, if there is one.
-fn keep_wait(waits: &mut Vec<[u32; 8]>, wait: Option<[u32; 8]>)
+fn keep_wait(waits: &mut Vec<[u32; CORE_ROOM]>, wait: Option<[u32; CORE_ROOM]>)
     requires { IfSome wait (λ w. vec_len waits.old < vec_capacity waits.old) }
     ensures waits { waits.new.items ≡ waited waits.old.items wait }
     ensures room { vec_capacity waits.new ≡ vec_capacity waits.old }

@@ -1,41 +1,23 @@
 // The steps of the buffers and of the controller.
-ghost use Rattle.std.specs.Prelude.{◌≡◌, ◌<◌, ◌≤◌, ◌==◌, true, false, IfSome, Some, length, slice_get};
+ghost use Rattle.std.specs.Prelude.{◌≡◌, ◌<◌, ◌≤◌, ◌==◌, true, false, Some, length, slice_get};
 ghost use Rattle.strand_base.specs.Counting.{count_below};
 ghost use Rattle.strand_events.specs.Trace.{event_is, is_persist};
-ghost use Rattle.strand_events.specs.Order.{held};
+ghost use Rattle.strand_events.specs.Order.{set_of};
 ghost use Rattle.strand_inputs.specs.declared.step.Step.TheVariants.{Send, Write};
 ghost use Rattle.strand_modules.specs.Seen.{bank_seen};
-ghost use Rattle.strand_rules.specs.Cycle.{turn, eligible, send_after, older_waits, request_of, write_after};
-ghost use Rattle.strand_rules.specs.Machine.{stepped, made_to, Steps};
+ghost use Rattle.strand_rules.specs.Cycle.{turn, send_after, older_waits, word_store_of, write_after};
+ghost use Rattle.strand_rules.specs.Machine.{stepped, made_to, StepLeaves};
 ghost use Rattle.strand_rules.specs.Next.{AreKeptWaits};
 ghost use Rattle.strand_rules.specs.Pipeline.{IsReachedWithSome};
 
+use crate::past::Past;
 use crate::pipeline::Pipeline;
-use crate::send_rules::{Past, eligible_at, older_waits, persist_number, request};
 use crate::turn::{Cause, Turn};
+use crate::write_rules::{persist_number, request};
+use strand_base::CORE_ROOM;
 use strand_modules::{AtModule, ModuleBank};
 
 impl Pipeline {
-    // The eligible persist of buffer b of core n at place j. These are the waits of the events.
-    fn eligible_at(&self, n: u32, b: u32, j: u32, waits: &[[u32; 8]]) -> Option<usize>
-        requires { AreKeptWaits self.now.config.conflict self.now.config.mode
-            self.now.state.now.trace waits.now }
-        ensures eligible { result ≡ slice_get (eligible self.now.config self.now.state n b) j }
-        ensures unsent { IfSome result (λ p. held self.now.state.buffered p ≡ true) }
-    {
-        let config = self.config;
-        let past = Past {
-            trace: &self.trace,
-            mode: config.mode,
-            buffers: config.buffers,
-            conflict: config.conflict,
-            buffered: &self.buffered,
-            durable: &self.durable,
-            waits,
-        };
-        eligible_at(&past, n, b, j)
-    }
-
     // Whether as many requests are in flight as can be.
     fn flight_full(&self) -> bool
         ensures full { result ≡ (length self.now.state.flight == self.now.config.flight) }
@@ -49,7 +31,7 @@ impl Pipeline {
     pub fn send(&mut self, p: usize)
         requires room { self.old.made < self.old.steps }
         requires flight { length self.old.state.flight < self.old.config.flight }
-        requires buffered { held self.old.state.buffered p ≡ true }
+        requires buffered { set_of self.old.state.buffered p ≡ true }
         requires reached { IsReachedWithSome self.old.config self.old.program
             (send_after self.old.state (Some p)) }
         ensures { self.new ≡ made_to self.old (send_after self.old.state (Some p)) }
@@ -60,15 +42,16 @@ impl Pipeline {
     }
 
     // Buffer b of core n sends its eligible persist at place j. These are the waits of the events.
-    pub(crate) fn step_send(&mut self, n: u32, b: u32, j: u32, waits: &[[u32; 8]]) -> Turn
+    pub(crate) fn step_send(&mut self, n: u32, b: u32, j: u32, waits: &[[u32; CORE_ROOM]]) -> Turn
         requires room { self.old.made < self.old.steps }
         requires waits { AreKeptWaits self.old.config.conflict self.old.config.mode
             self.old.state.now.trace waits.now }
         ensures turn { result ≡ turn self.old.config self.old.program self.old.state (Send n b j) }
         ensures machine { self.new ≡ stepped self.old (Send n b j) }
     {
-        prove!(self.made < self.steps);
-        let Some(p) = self.eligible_at(n, b, j, waits) else {
+        self.keeps();
+        let found = Past::new(self, waits).eligible_at(n, b, j);
+        let Some(p) = found else {
             return self.bubble(Cause::NoEntry);
         };
         if self.flight_full() {
@@ -76,24 +59,6 @@ impl Pipeline {
         }
         self.send(p);
         Turn::Done
-    }
-
-    // The persist of the request at place j of those in flight.
-    fn request_at(&self, j: u32) -> Option<usize>
-        ensures request { result ≡ slice_get self.now.state.flight j }
-        ensures persist { IfSome result (λ p. event_is is_persist self.now.state.now.trace p ≡ true) }
-    {
-        let p = self.flight.get(j as usize)?;
-        Some(*p as usize)
-    }
-
-    // Whether an older request than the one at place j, of persist p, has its word.
-    fn older_waits(&self, j: u32, p: usize) -> bool
-        requires request { slice_get self.now.state.flight j ≡ Some p }
-        requires persist { event_is is_persist self.now.state.now.trace p ≡ true }
-        ensures { result ≡ older_waits self.now.state j p }
-    {
-        older_waits(self.trace.events(), &self.flight, j as usize, p)
     }
 
     // The number of persist p among the persists.
@@ -107,8 +72,8 @@ impl Pipeline {
     // What the request of persist p stores, and where.
     fn request(&self, p: usize) -> (u64, u64)
         requires { event_is is_persist self.now.state.now.trace p ≡ true }
-        ensures place { result.0 ≡ (request_of self.now.state p).place }
-        ensures value { result.1 ≡ (request_of self.now.state p).value }
+        ensures place { result.0 ≡ (word_store_of self.now.state p).place }
+        ensures value { result.1 ≡ (word_store_of self.now.state p).value }
         ensures inside { result.0 < self.now.program.sizes.persistent }
     {
         request(self.trace.events(), p)
@@ -135,9 +100,9 @@ impl Pipeline {
     pub(crate) fn step_write(&mut self, j: u32, bank: &mut ModuleBank) -> Turn
         requires room { self.old.made < self.old.steps }
         requires bank { self.old.program.sizes.persistent ≤ (bank_seen holds bank.old).size }
-        ensures { Steps self.old self.new (bank_seen holds bank.old) (bank_seen holds bank.new) (Write j) result }
+        ensures { StepLeaves self.old self.new (bank_seen holds bank.old) (bank_seen holds bank.new) (Write j) result }
     {
-        prove!(self.made < self.steps);
+        self.keeps();
         let Some(p) = self.request_at(j) else {
             return self.bubble(Cause::NoEntry);
         };

@@ -1,10 +1,10 @@
 -- What is run, and what some of its steps come to by the cycle rules.
 use Rattle.std.specs.Prelude.{ℕ, List}
-use Rattle.strand_image.specs.Parts.{Parts}
+use Rattle.strand_image.specs.ImageSeen.{ImageSeen}
 use Rattle.strand_inputs.specs.Settings.{Settings}
 use Rattle.strand_inputs.specs.declared.step.Step.{Step}
 use Rattle.strand_rules.specs.declared.turn.BubbleAt.{BubbleAt}
-use Rattle.strand_rules.specs.Cycle.{State, run}
+use Rattle.strand_rules.specs.Cycle.{State, after_steps}
 use Rattle.strand_rules.specs.Machine.{program_of, start_of}
 use Rattle.strand_rules.specs.Run.{writes_of}
 use Rattle.strand_run.specs.Stepping.{bubbles_in}
@@ -12,15 +12,15 @@ use Rattle.strand_run.specs.Stepping.{bubbles_in}
 -- the settings of a machine, an image, and the steps that are to be made
 pub record Inputs : Type 0 where
   pub config : Settings
-  pub image : Parts
+  pub image : ImageSeen
   pub steps : List Step
 
-abbrev pub inputs : Settings → Parts → List Step → Inputs
+abbrev pub inputs : Settings → ImageSeen → List Step → Inputs
 inputs config image steps = record { config = config; image = image; steps = steps }
 
 -- the state after some steps
 abbrev pub state_after : Inputs → List Step → State
-state_after u steps = run u.config (program_of u.image) (start_of u.image) steps
+state_after u steps = after_steps u.config (program_of u.image) (start_of u.image) steps
 
 -- those of the steps that did nothing
 abbrev pub bubbles_after : Inputs → List Step → List BubbleAt

@@ -4,7 +4,7 @@ use Rattle.std.specs.declared.option.Option.{Option}
 use Rattle.strand_inputs.specs.declared.step.Step.{Step}
 use Rattle.strand_report.specs.Report.{View}
 use Rattle.strand_rules.specs.declared.turn.StepFault.{StepFault}
-use Rattle.strand_modules.specs.Bank.{BankSeen, Keeps, front_written, loads_accepted, stores_accepted}
+use Rattle.strand_modules.specs.Bank.{BankSeen, Keeps, front_written, reads_accepted, stores_accepted}
 use Rattle.strand_rules.specs.Machine.{program_of, start_of, durable_persists}
 use Rattle.strand_rules.specs.Run.{CanFail}
 use Rattle.strand_run.specs.declared.running.Run.{Run}
@@ -30,7 +30,7 @@ FilledTo u n before after = (n < length u.image.persistent) × (after.told ≡ f
 
 -- The modules accepted so many stores and so many loads.
 abbrev pub Accepts : ℕ → ℕ → BankSeen → BankSeen → Type 0
-Accepts stores loads before after = after.accepted ≡ loads_accepted loads (stores_accepted stores before.accepted)
+Accepts stores reads before after = after.accepted ≡ reads_accepted reads (stores_accepted stores before.accepted)
 
 -- The bank was filled and the steps were made, and then so many words were read.
 abbrev pub RanAndRead : Inputs → List Step → ℕ → BankSeen → BankSeen → Type 0
@@ -61,10 +61,10 @@ StandsAfterSome u before after = (n : ℕ) × (n ≤ length u.steps) × StandsAf
 -- The modules accepted no more calls than those of the fill, of all steps and of the read.
 pub record AcceptsFew (u : Inputs) (before after : BankSeen) : Type 0 where
   pub stores : ℕ
-  pub loads : ℕ
+  pub reads : ℕ
   pub few_stores : stores ≤ length u.image.persistent + writes_after u u.steps
-  pub few_loads : loads ≤ length u.image.persistent
-  pub accepts : Accepts stores loads before after
+  pub few_reads : reads ≤ length u.image.persistent
+  pub accepts : Accepts stores reads before after
 
 -- What may stand where no memory was left: the bank as at entry, filled in part, or as after some first steps.
 pub record MayLeave (u : Inputs) (before after : BankSeen) : Type 0 where
@@ -76,7 +76,7 @@ abbrev pub view_of : Run → View
 view_of r = shown r.machine.machine.config r.machine.machine.made r.machine.machine.state.now r.bubbles.items r.held (durable_persists r.machine.machine.state) r.fault
 
 -- What is told of a run: the steps that were made, and the words that were read.
-pub record Tells (u : Inputs) (before : BankSeen) (r : Run) : Type 0 where
+pub record TellsRun (u : Inputs) (before : BankSeen) (r : Run) : Type 0 where
   pub size : r.machine.machine.program.sizes.persistent ≡ length u.image.persistent
   pub view : view_of r ≡ view_after u (steps_made r.fault u.steps) r.held r.fault
   pub held : AreHeld u (steps_made r.fault u.steps) before r.held
@@ -84,7 +84,7 @@ pub record Tells (u : Inputs) (before : BankSeen) (r : Run) : Type 0 where
 abbrev pub IsEnd : Inputs → BankSeen → RunEnd → Course → Type 0
 IsEnd u before (FillRefused m) fault = fault ≡ fill m
 IsEnd u before (ReadRefused n) fault = (f : Option StepFault) × (fault ≡ ran f (Some n))
-IsEnd u before (Told r) fault = (fault ≡ ran r.fault None) × Tells u before r
+IsEnd u before (Told r) fault = (fault ≡ ran r.fault None) × TellsRun u before r
 
 -- This was run on a bank, and so it ended, by one course that it may take.
 pub record RunsTo (u : Inputs) (before after : BankSeen) (end : RunEnd) : Type 0 where

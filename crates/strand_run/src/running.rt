@@ -1,4 +1,5 @@
 ghost use Rattle.std.specs.Prelude.{◌≡◌, ◌≤◌, All, length, IfOk, OnErr};
+ghost use Rattle.strand_base.specs.declared.limits.TheConstants.{MOST_STEPS};
 ghost use Rattle.strand_inputs.specs.Schedule.{IsBelow};
 ghost use Rattle.strand_modules.specs.Bank.{Keeps};
 ghost use Rattle.strand_modules.specs.Seen.{bank_seen};
@@ -48,7 +49,7 @@ pub fn run_image(
     bank: &mut ModuleBank,
 ) -> Result<RunEnd, OutOfMemory>
     requires room { length image.now.persistent ≤ (bank_seen holds bank.old).size }
-    requires few { length steps.now ≤ 200000 }
+    requires few { length steps.now ≤ MOST_STEPS }
     requires below { All (IsBelow (length image.now.entries) config.now.buffers) steps.now }
     ensures ran { IfOk result
         (RunsTo (inputs config.now image.now steps.now) (bank_seen holds bank.old)

@@ -1,5 +1,5 @@
 pub mod Vectors
-pub mod Noting
-pub mod Longer
-pub mod Waiting
-pub mod Handing
+pub mod StandFor
+pub mod LongerTrace
+pub mod Waits
+pub mod ConflictWaits

@@ -1,11 +1,12 @@
 -- Vectors of counts.
 use Rattle.std.specs.Prelude.{ℕ, max, List, replicate, slice_index}
+use Rattle.strand_base.specs.declared.limits.TheConstants.{CORE_ROOM}
 use Rattle.strand_events.specs.Waits.{each_core}
 use Rattle.strand_tags.specs.declared.count_vector.CountVector.{CountVector}
 
 -- a vector of zeros
 abbrev pub no_counts : CountVector
-no_counts = record { counts = replicate 8 0 }
+no_counts = record { counts = replicate CORE_ROOM 0 }
 
 -- the vector of these counts
 abbrev pub vector : List ℕ → CountVector

@@ -1,7 +1,7 @@
 pub mod Access
 pub mod Greater
 pub mod Traces
-pub mod Marks
+pub mod WordTags
 pub mod TagsSeen
 pub mod Kept
-pub mod Entries
+pub mod WaitEntries

@@ -1,12 +1,14 @@
 -- The tags as contracts see them, what they answer, and the lists of accesses that they stand for.
 use Rattle.std.specs.Prelude.{◌≡◌, ℕ, ◌+◌, ◌-◌, ◌*◌, ◌/◌, ◌^◌, ◌<◌, ◌≤◌, max, nat_lt, ◌==◌, List, length, slice_index, slice_index_or, slice_set, if◌then◌else◌}
-use Rattle.strand_exec.specs.Core.{Extents, volatile_base, persistent_base}
+use Rattle.strand_base.specs.declared.limits.TheConstants.{MOST_MEMORY, CORE_ROOM}
+use Rattle.strand_base.specs.declared.regions.TheConstants.{VOLATILE_BASE, PERSISTENT_BASE}
+use Rattle.strand_exec.specs.Core.{Extents}
 use Rattle.strand_exec.specs.Plan.{IsWord}
 use Rattle.strand_tags.specs.declared.count_vector.CountVector.{CountVector}
-use Rattle.strand_tags.specs.declared.mark.Mark.{Mark}
+use Rattle.strand_tags.specs.declared.word_tag.WordTag.{WordTag}
 use Rattle.strand_tags.specs.Access.{Access, Noted, covered}
 use Rattle.strand_tags.specs.Greater.{greater, no_counts, vector}
-use Rattle.strand_tags.specs.Marks.{no_mark, whole, without, marked}
+use Rattle.strand_tags.specs.WordTags.{no_tag, whole, without, tag_after}
 
 pub record TagsSeen : Type 0 where
   pub extents : Extents
@@ -14,34 +16,34 @@ pub record TagsSeen : Type 0 where
   pub strands : List ℕ
   pub made : List ℕ
   -- per word and core, what is kept of the stores, and of the loads and stores together
-  pub stores : List Mark
-  pub accesses : List Mark
+  pub stores : List WordTag
+  pub accesses : List WordTag
   -- per word, the greatest waits of the stores, and of the loads and stores together
   pub store_waits : List CountVector
   pub access_waits : List CountVector
 
 -- the place of a data word among all words, the volatile ones first
 abbrev pub word_place : Extents → ℕ → ℕ
-word_place extents word = if nat_lt word persistent_base then (word - volatile_base) / 8 else extents.volatile + (word - persistent_base) / 8
+word_place extents word = if nat_lt word PERSISTENT_BASE then (word - VOLATILE_BASE) / 8 else extents.volatile + (word - PERSISTENT_BASE) / 8
 
--- the place of a word's and a core's mark
+-- the place of a word's and a core's tag
 abbrev pub slot : TagsSeen → ℕ → ℕ → ℕ
 slot tags core word = word_place tags.extents word * length tags.strands + core
 
-abbrev pub mark_in : List Mark → TagsSeen → ℕ → ℕ → Mark
-mark_in marks tags core word = slice_index_or marks (slot tags core word) no_mark
+abbrev pub tag_in : List WordTag → TagsSeen → ℕ → ℕ → WordTag
+tag_in word_tags tags core word = slice_index_or word_tags (slot tags core word) no_tag
 
--- the mark of the accesses of core c that conflict with access b
-abbrev pub conflicting : TagsSeen → Access → ℕ → Mark
-conflicting tags b c = if b.write then mark_in tags.accesses tags c b.word else mark_in tags.stores tags c b.word
+-- the tag of the accesses of core c that conflict with access b
+abbrev pub conflicting : TagsSeen → Access → ℕ → WordTag
+conflicting tags b c = if b.write then tag_in tags.accesses tags c b.word else tag_in tags.stores tags c b.word
 
--- what a mark of core c tells of access b: the accesses of another strand than b's
-abbrev pub told : Mark → Access → ℕ → ℕ
-told m b c = if c == b.core then without m b.strand else whole m
+-- the persists that a tag of core c has for access b: those made at accesses of another strand than b's
+abbrev pub made_elsewhere : WordTag → Access → ℕ → ℕ
+made_elsewhere m b c = if c == b.core then without m b.strand else whole m
 
 -- the greatest number of persists that core c had made at an access that opposes access b
-abbrev pub made_told : TagsSeen → Access → ℕ → ℕ
-made_told tags b c = if nat_lt c (length tags.strands) then told (conflicting tags b c) b c else 0
+abbrev pub made_opposing : TagsSeen → Access → ℕ → ℕ
+made_opposing tags b c = if nat_lt c (length tags.strands) then made_elsewhere (conflicting tags b c) b c else 0
 
 -- the greatest waits that are kept of a word
 abbrev pub wait_in : List CountVector → TagsSeen → ℕ → List ℕ
@@ -53,7 +55,7 @@ conflicting_wait tags b = if b.write then wait_in tags.access_waits tags b.word 
 
 -- what the tags answer for core c
 abbrev pub answer : TagsSeen → Access → ℕ → ℕ
-answer tags b c = max (slice_index (conflicting_wait tags b) c) (made_told tags b c)
+answer tags b c = max (slice_index (conflicting_wait tags b) c) (made_opposing tags b c)
 
 -- the tags can be asked of the access: its core and its word are there, and no later strand of its core was noted
 pub record CanAsk (tags : TagsSeen) (b : Access) : Type 0 where
@@ -64,11 +66,11 @@ pub record CanAsk (tags : TagsSeen) (b : Access) : Type 0 where
 
 -- The tags stand for a list of accesses where each of the eight answers is the maximum over it.
 abbrev pub StandFor : TagsSeen → List Noted → Type 0
-StandFor tags ns = (b : Access) → CanAsk tags b → (c : ℕ) → c < 8 → answer tags b c ≡ covered c b ns
+StandFor tags ns = (b : Access) → CanAsk tags b → (c : ℕ) → c < CORE_ROOM → answer tags b c ≡ covered c b ns
 
--- the marks with the access of one core noted
-abbrev pub with_access : List Mark → TagsSeen → Noted → List Mark
-with_access marks tags n = slice_set marks (slot tags n.access.core n.access.word) (marked (mark_in marks tags n.access.core n.access.word) n.access.strand n.made)
+-- the tags with the access of one core noted
+abbrev pub with_access : List WordTag → TagsSeen → Noted → List WordTag
+with_access word_tags tags n = slice_set word_tags (slot tags n.access.core n.access.word) (tag_after (tag_in word_tags tags n.access.core n.access.word) n.access.strand n.made)
 
 -- the waits with those of one access more
 abbrev pub with_wait : List CountVector → TagsSeen → Noted → List CountVector
@@ -86,15 +88,15 @@ noted tags n = record {
   access_waits = with_wait tags.access_waits tags n;
 }
 
--- no mark has a later strand than was noted of its core
-abbrev pub AreBehind : List Mark → List ℕ → Type 0
-AreBehind marks strands = (place core : ℕ) → core < length strands → (slice_index_or marks (place * length strands + core) no_mark).strand ≤ slice_index strands core
+-- no tag has a later strand than was noted of its core
+abbrev pub AreBehind : List WordTag → List ℕ → Type 0
+AreBehind word_tags strands = (place core : ℕ) → core < length strands → (slice_index_or word_tags (place * length strands + core) no_tag).strand ≤ slice_index strands core
 
 -- what the tags keep
 pub record AreKept (tags : TagsSeen) : Type 0 where
-  pub few : length tags.strands ≤ 8
-  pub volatile : tags.extents.volatile ≤ 1048576
-  pub persistent : tags.extents.persistent ≤ 1048576
+  pub few : length tags.strands ≤ CORE_ROOM
+  pub volatile : tags.extents.volatile ≤ MOST_MEMORY
+  pub persistent : tags.extents.persistent ≤ MOST_MEMORY
   pub made : length tags.made ≡ length tags.strands
   pub stores : length tags.stores ≡ (tags.extents.volatile + tags.extents.persistent) * length tags.strands
   pub accesses : length tags.accesses ≡ (tags.extents.volatile + tags.extents.persistent) * length tags.strands

@@ -1,5 +1,6 @@
 -- The accesses of a trace as tags are told of them, and whether an access must wait, by counts of persists.
 use Rattle.std.specs.Prelude.{ℕ, ◌+◌, nat_lt, Bool, List, map, length}
+use Rattle.strand_base.specs.declared.limits.TheConstants.{CORE_ROOM}
 use Rattle.strand_base.specs.Counting.{list_below, any_below}
 use Rattle.strand_inputs.specs.declared.mode.Mode.{Mode}
 use Rattle.strand_inputs.specs.declared.conflict.Conflict.{Conflict}
@@ -34,4 +35,4 @@ noted_accesses conflict mode t = noted_below conflict mode t (length t)
 
 -- for some core, event b covers more persists than its first ones that are all durable
 abbrev pub waits_by_counts : Mode → List Event → Set → ℕ → Bool
-waits_by_counts mode t durable b = any_below 8 (λ c. nat_lt (durable_prefix t durable c) (covered c (access_at mode t b) (noted_below Stall mode t b)))
+waits_by_counts mode t durable b = any_below CORE_ROOM (λ c. nat_lt (durable_prefix t durable c) (covered c (access_at mode t b) (noted_below Stall mode t b)))

@@ -1,7 +1,8 @@
 ghost use Rattle.std.specs.Prelude.{◌≡◌, ◌<◌, ◌-◌, ◌^◌, ◌==◌, ℕ, [], slice_index};
+ghost use Rattle.strand_base.specs.declared.limits.TheConstants.{CORE_ROOM};
 ghost use Rattle.strand_inputs.specs.declared.mode.Mode.{Mode};
 ghost use Rattle.strand_events.specs.Vectors.{next_by_order, waits_after};
-ghost use Rattle.strand_tags.specs.Entries.{KeepsWaits, wait_entry, no_waits};
+ghost use Rattle.strand_tags.specs.WaitEntries.{KeepsWaits, wait_entry, no_waits};
 
 use crate::count_vector::{CountVector, NO_COUNTS};
 use strand_events::Event;
@@ -48,7 +49,7 @@ impl CoreWaits {
     /// where that is an access.
     pub fn after(&self, mode: Mode, e: Event, wait: &CountVector) -> CoreWaits
         requires { self.now.made < 2 ^ 32 - 1 }
-        ensures { (c : ℕ) → c < 8
+        ensures { (c : ℕ) → c < CORE_ROOM
             → wait_entry result c
             ≡ waits_after mode e (slice_index wait.now.counts c) (wait_entry self.now c) }
     {
@@ -84,8 +85,8 @@ impl CoreWaits {
 
     /// What the core's own order hands on to its next access, where it is core `own`.
     pub fn by_order(&self, mode: Mode, own: u32) -> CountVector
-        requires { own < 8 }
-        ensures { (c : ℕ) → c < 8
+        requires { own < CORE_ROOM }
+        ensures { (c : ℕ) → c < CORE_ROOM
             → slice_index result.counts c ≡ next_by_order mode (c == own) (wait_entry self.now c) }
     {
         match mode {

@@ -1,4 +1,5 @@
 ghost use Rattle.std.specs.Prelude.{◌≡◌, ◌<◌, ◌≤◌, ◌+◌, ◌&&◌, ◌==◌, not, nat_lt, ℕ, true, false, List, [], ◌∷◌, ◌++◌, length, slice_index};
+ghost use Rattle.strand_base.specs.declared.limits.TheConstants.{CORE_ROOM};
 ghost use Rattle.strand_base.specs.Counting.{any_below};
 ghost use Rattle.strand_inputs.specs.declared.mode.Mode.{Mode};
 ghost use Rattle.strand_inputs.specs.declared.conflict.Conflict.{Conflict};
@@ -12,7 +13,7 @@ ghost use Rattle.strand_events.specs.Vectors.{handed_by_conflicts, waits_after};
 ghost use Rattle.strand_events.specs.Waits.{each_core, wait};
 ghost use Rattle.strand_tags.specs.declared.core_waits.CoreWaits.{CoreWaits};
 ghost use Rattle.strand_tags.specs.Access.{covered};
-ghost use Rattle.strand_tags.specs.Entries.{KeepsWaits, wait_entry};
+ghost use Rattle.strand_tags.specs.WaitEntries.{KeepsWaits, wait_entry};
 ghost use Rattle.strand_tags.specs.Traces.{access_at, noted_accesses, noted_at, noted_below, waits_by_counts};
 
 /// Why counts of persists tell what waits, for every trace, mode and set of durable persists
@@ -52,15 +53,15 @@ pub fn counts_tell_what_waits()
 /// core (`others`). A vector is known by its eight numbers (`vector`).
 pub fn waits_are_noted()
     ensures conflicts { (mode : Mode) (t : List Event) (b c : ℕ) → event_is is_access t b ≡ true
-        → c < 8
+        → c < CORE_ROOM
         → handed_by_conflicts mode t c b ≡ covered c (access_at mode t b) (noted_below Tag mode t b) }
     ensures own { (mode : Mode) (t : List Event) (e : Event) (old new : CoreWaits) (w : List ℕ)
         → KeepsWaits mode t (core_of e) old
-        → ((c : ℕ) → c < 8 → slice_index w c ≡ wait mode (t ++ e ∷ []) c (length t))
-        → ((c : ℕ) → c < 8 → wait_entry new c ≡ waits_after mode e (slice_index w c) (wait_entry old c))
+        → ((c : ℕ) → c < CORE_ROOM → slice_index w c ≡ wait mode (t ++ e ∷ []) c (length t))
+        → ((c : ℕ) → c < CORE_ROOM → wait_entry new c ≡ waits_after mode e (slice_index w c) (wait_entry old c))
         → KeepsWaits mode (t ++ e ∷ []) (core_of e) new }
     ensures others { (mode : Mode) (t : List Event) (e : Event) (n : ℕ) (old : CoreWaits)
         → (core_of e == n) ≡ false → KeepsWaits mode t n old → KeepsWaits mode (t ++ e ∷ []) n old }
-    ensures vector { (f : ℕ → ℕ) (w : List ℕ) → length w ≡ 8
-        → ((c : ℕ) → c < 8 → slice_index w c ≡ f c) → w ≡ each_core f }
+    ensures vector { (f : ℕ → ℕ) (w : List ℕ) → length w ≡ CORE_ROOM
+        → ((c : ℕ) → c < CORE_ROOM → slice_index w c ≡ f c) → w ≡ each_core f }
 {}

@@ -5,8 +5,8 @@
 mod core_waits;
 mod count_vector;
 mod laws;
-mod mark;
 mod tags;
+mod word_tag;
 
 pub use core_waits::CoreWaits;
 pub use count_vector::CountVector;

@@ -1,19 +1,20 @@
 ghost use Rattle.std.specs.Prelude.{◌≡◌, ◌<◌, ◌≤◌, ◌++◌, [], ◌∷◌, ℕ, IfOk, List, length, replicate, slice_index, slice_index_or, slice_set, if◌then◌else◌};
+ghost use Rattle.strand_base.specs.declared.limits.TheConstants.{CORE_ROOM};
 ghost use Rattle.strand_exec.specs.Plan.{IsWord};
 ghost use Rattle.strand_tags.specs.Access.{Access, access, covered, noted_as, Noted};
 ghost use Rattle.strand_tags.specs.Greater.{greater, no_counts, vector};
-ghost use Rattle.strand_tags.specs.Marks.{marked, no_mark};
-ghost use Rattle.strand_tags.specs.TagsSeen.{answer, CanAsk, conflicting_wait, made_told, slot, StandFor, word_place};
+ghost use Rattle.strand_tags.specs.WordTags.{tag_after, no_tag};
+ghost use Rattle.strand_tags.specs.TagsSeen.{answer, CanAsk, conflicting_wait, made_opposing, slot, StandFor, word_place};
 
 use crate::count_vector::{CountVector, NO_COUNTS};
-use crate::mark::{Mark, NO_MARK};
+use crate::word_tag::{NO_TAG, WordTag};
 use std::alloc::Global;
 use std::marker::Model;
-use strand_base::OutOfMemory;
-use strand_exec::{PERSISTENT_BASE, Sizes, VOLATILE_BASE};
+use strand_base::{OutOfMemory, PERSISTENT_BASE, VOLATILE_BASE};
+use strand_exec::Sizes;
 
 /// What the accesses that were noted make a later access wait for. Up to eight cores access the
-/// data words of the two regions. The tags keep no list of the accesses: two marks of 12 bytes a
+/// data words of the two regions. The tags keep no list of the accesses: two tags of 12 bytes a
 /// word and core, two vectors of waits of 32 bytes a word, whose room `new` takes, and per core the
 /// latest strand and how many persists it had made.
 #[derive(Debug, Drop)]
@@ -21,8 +22,8 @@ pub struct Tags {
     sizes: Sizes,
     strands: Vec<u32>,
     made: Vec<u32>,
-    stores: Vec<Mark>,
-    accesses: Vec<Mark>,
+    stores: Vec<WordTag>,
+    accesses: Vec<WordTag>,
     store_waits: Vec<CountVector>,
     access_waits: Vec<CountVector>,
 }
@@ -43,7 +44,7 @@ impl Tags {
     /// The tags of so many cores and of the words of the regions, with no access noted. Only this
     /// call takes memory: 24 bytes for each word and core, 64 a word, and eight a core.
     pub fn new(alloc: Global, cores: u32, sizes: Sizes) -> Result<Tags, OutOfMemory>
-        requires { cores ≤ 8 }
+        requires { cores ≤ CORE_ROOM }
         ensures extents { IfOk result (λ t. t.extents ≡ sizes) }
         ensures strands { IfOk result (λ t. t.strands ≡ replicate cores 0) }
         ensures made { IfOk result (λ t. t.made ≡ replicate cores 0) }
@@ -55,8 +56,8 @@ impl Tags {
             sizes,
             strands: zeros(alloc, cores)?,
             made: zeros(alloc, cores)?,
-            stores: no_marks(alloc, count)?,
-            accesses: no_marks(alloc, count)?,
+            stores: no_tags(alloc, count)?,
+            accesses: no_tags(alloc, count)?,
             store_waits: no_waits(alloc, words)?,
             access_waits: no_waits(alloc, words)?,
         })
@@ -76,7 +77,7 @@ impl Tags {
         }
     }
 
-    // The place of the mark of a core and a word.
+    // The place of the tag of a core and a word.
     fn slot(&self, core: u32, word: u64) -> usize
         requires core { core < length self.now.strands }
         requires word { IsWord self.now.extents word }
@@ -88,21 +89,21 @@ impl Tags {
     }
 
     // The greatest number of persists that core c had made at an access that opposes this one.
-    fn made_told(&self, c: u32, core: u32, strand: u32, word: u64, write: bool) -> u32
+    fn made_opposing(&self, c: u32, core: u32, strand: u32, word: u64, write: bool) -> u32
         requires c { c < length self.now.strands }
         requires word { IsWord self.now.extents word }
-        ensures { result ≡ made_told self.now (access core strand word write) c }
+        ensures { result ≡ made_opposing self.now (access core strand word write) c }
     {
         let slot = self.slot(c, word);
-        let mark = if write {
+        let tag = if write {
             self.accesses[slot]
         } else {
             self.stores[slot]
         };
         if c == core {
-            mark.without(strand)
+            tag.without(strand)
         } else {
-            mark.whole()
+            tag.whole()
         }
     }
 
@@ -127,14 +128,14 @@ impl Tags {
     /// time in the number of cores.
     pub fn covers(&self, core: u32, strand: u32, word: u64, write: bool) -> CountVector
         requires { CanAsk self.now (access core strand word write) }
-        ensures answers { (c : ℕ) → c < 8
+        ensures answers { (c : ℕ) → c < CORE_ROOM
             → slice_index result.counts c ≡ answer self.now (access core strand word write) c }
-        ensures stands { (ns : List Noted) → StandFor self.now ns → (c : ℕ) → c < 8
+        ensures stands { (ns : List Noted) → StandFor self.now ns → (c : ℕ) → c < CORE_ROOM
             → slice_index result.counts c ≡ covered c (access core strand word write) ns }
     {
         let mut counts = self.conflicting_wait(word, write).counts;
         for c in 0..self.strands.len() {
-            counts[c] = counts[c].max(self.made_told(c as u32, core, strand, word, write));
+            counts[c] = counts[c].max(self.made_opposing(c as u32, core, strand, word, write));
         }
         CountVector { counts }
     }
@@ -162,8 +163,8 @@ impl Tags {
     {
         let place = self.place(word);
         let slot = self.slot(core, word);
-        mark_store(&mut self.stores, write, slot, strand, made);
-        mark_access(&mut self.accesses, slot, strand, made);
+        tag_store(&mut self.stores, write, slot, strand, made);
+        tag_access(&mut self.accesses, slot, strand, made);
         raise_store(&mut self.store_waits, write, place, wait);
         raise_access(&mut self.access_waits, place, wait);
         self.strands[core as usize] = strand;
@@ -171,23 +172,24 @@ impl Tags {
     }
 }
 
-// Notes an access in the mark at a place.
-fn mark_access(marks: &mut Vec<Mark>, slot: usize, strand: u32, made: u32)
-    requires { slot < length marks.old.items }
-    ensures { marks.new.items ≡ slice_set marks.old.items slot
-        (marked (slice_index_or marks.old.items slot no_mark) strand made) }
+// Notes an access in the tag at a place.
+fn tag_access(word_tags: &mut Vec<WordTag>, slot: usize, strand: u32, made: u32)
+    requires { slot < length word_tags.old.items }
+    ensures { word_tags.new.items ≡ slice_set word_tags.old.items slot
+        (tag_after (slice_index_or word_tags.old.items slot no_tag) strand made) }
 {
-    marks[slot] = marks[slot].marked(strand, made);
+    word_tags[slot] = word_tags[slot].tag_after(strand, made);
 }
 
 // The same where it is a store.
-fn mark_store(marks: &mut Vec<Mark>, write: bool, slot: usize, strand: u32, made: u32)
-    requires { slot < length marks.old.items }
-    ensures { marks.new.items ≡ (if write then slice_set marks.old.items slot
-        (marked (slice_index_or marks.old.items slot no_mark) strand made) else marks.old.items) }
+fn tag_store(word_tags: &mut Vec<WordTag>, write: bool, slot: usize, strand: u32, made: u32)
+    requires { slot < length word_tags.old.items }
+    ensures { word_tags.new.items ≡ (if write then slice_set word_tags.old.items slot
+        (tag_after (slice_index_or word_tags.old.items slot no_tag) strand made)
+        else word_tags.old.items) }
 {
     if write {
-        mark_access(marks, slot, strand, made);
+        tag_access(word_tags, slot, strand, made);
     }
 }
 
@@ -219,11 +221,11 @@ fn zeros(alloc: Global, count: u32) -> Result<Vec<u32>, OutOfMemory>
     Ok(vec![in alloc; 0; count as usize]?)
 }
 
-// So many marks of no access.
-fn no_marks(alloc: Global, count: usize) -> Result<Vec<Mark>, OutOfMemory>
-    ensures { IfOk result (λ marks. marks.items ≡ replicate count no_mark) }
+// So many tags of no access.
+fn no_tags(alloc: Global, count: usize) -> Result<Vec<WordTag>, OutOfMemory>
+    ensures { IfOk result (λ word_tags. word_tags.items ≡ replicate count no_tag) }
 {
-    Ok(vec![in alloc; NO_MARK; count]?)
+    Ok(vec![in alloc; NO_TAG; count]?)
 }
 
 // So many vectors of zeros.

@@ -23,13 +23,13 @@ use Rattle.strand_app.specs.Generated.{generated}
 use Rattle.strand_app.specs.Machine.{stepping_rule}
 use Rattle.strand_app.specs.Reads.{Reads, decided, ◌>>=◌}
 use Rattle.strand_app.specs.Rule.{Rule, Text}
-use Rattle.strand_app.specs.RunFiles.{settled}
+use Rattle.strand_app.specs.RunFiles.{cut_off}
 
 -- all steps, on a bank of so many words
 abbrev pub gen_reads : (bank seed size : ℕ) → Reads Inputs
 gen_reads bank seed size = do
   u ← decided (generated seed size)
-  settled bank End u
+  cut_off bank End u
 
 module _ (seed size : ℕ) where
   -- the command's line, and then the line of what a module refused; there is no report, even where steps were made

@@ -17,7 +17,7 @@ use Rattle.strand_app.specs.Contents.{crash_in}
 use Rattle.strand_app.specs.Machine.{machine_rule}
 use Rattle.strand_app.specs.Reads.{Contents, Reads, file, given, ◌>>=◌}
 use Rattle.strand_app.specs.Rule.{Rule, Text}
-use Rattle.strand_app.specs.RunFiles.{run_files, settled}
+use Rattle.strand_app.specs.RunFiles.{run_files, cut_off}
 
 -- what is run, and the words of a crash image
 pub record Question : Type 0 where
@@ -28,7 +28,7 @@ pub record Question : Type 0 where
 abbrev pub crash_reads : ℕ → Stop → Contents → Inputs → Reads Question
 crash_reads size stop contents all = do
   crash ← file 4 (crash_in all.image) contents
-  run ← settled size stop all
+  run ← cut_off size stop all
   given (record { run = run; crash = crash })
 
 abbrev pub judge_reads : ℕ → Stop → Contents → Reads Question

@@ -9,13 +9,13 @@ use Rattle.strand_app.specs.declared.status.Status.TheVariants as status
 use Rattle.strand_app.specs.Machine.{machine_rule}
 use Rattle.strand_app.specs.Reads.{Contents, Reads, ◌>>=◌}
 use Rattle.strand_app.specs.Rule.{Rule, Text}
-use Rattle.strand_app.specs.RunFiles.{run_files, settled}
+use Rattle.strand_app.specs.RunFiles.{run_files, cut_off}
 
 -- on a bank of so many words
 abbrev pub run_reads : ℕ → Stop → Contents → Reads Inputs
 run_reads size stop contents = do
   u ← run_files contents
-  settled size stop u
+  cut_off size stop u
 
 abbrev pub PutsReport : Inputs → BankSeen → Status → Text → Type 0
 PutsReport u before end text = (end ≡ status.Ok) × ReportsRun u u.steps before None text

@@ -12,7 +12,7 @@ ghost use Rattle.strand_modules.specs.Seen.{bank_seen};
 use crate::commands::judge::status_of;
 use crate::fetching::OpenFault;
 use crate::generating::generated;
-use crate::opening::{Setup, settle};
+use crate::opening::{Setup, cut_off};
 use crate::refusing::refuse;
 use crate::running::run_setup;
 use crate::status::{Made, Status};
@@ -29,7 +29,7 @@ fn open_generated(alloc: Global, seed: u64, size: u64, bank: u64) -> Result<Setu
     ensures ready { IfOk result (IsReady bank) }
 {
     let all = generated(alloc, seed, size)?;
-    Ok(settle(all, Stop::End, bank)?)
+    Ok(cut_off(all, Stop::End, bank)?)
 }
 
 // The answer where a module refused.

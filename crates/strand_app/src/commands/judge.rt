@@ -11,7 +11,7 @@ ghost use Rattle.strand_modules.specs.Seen.{bank_seen};
 use crate::command::RunWords;
 use crate::contents::fetch_crash;
 use crate::fetching::OpenFault;
-use crate::opening::{Setup, open_run_files, settle};
+use crate::opening::{Setup, cut_off, open_run_files};
 use crate::refusing::refuse;
 use crate::running::{Ran, run_on_bank};
 use crate::status::{Made, Status};
@@ -44,7 +44,7 @@ fn open_question<F: Files>(
 {
     let all = open_run_files(alloc, words, files)?;
     let crash = fetch_crash(alloc, &all.image, crash, files)?;
-    let setup = settle(all, words.stop, size)?;
+    let setup = cut_off(all, words.stop, size)?;
     Ok(Question { setup, crash })
 }
 

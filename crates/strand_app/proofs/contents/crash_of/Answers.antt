@@ -1,18 +1,19 @@
 use Rattle.std.proofs.Common.{◌∙◌, sym, ap, subst, length}
 use Rattle.std.specs.Prelude.{Err}
+use Rattle.strand_app.specs.declared.file_sizes.TheConstants.{MOST_CRASH_BYTES}
 use Rattle.strand_report.specs.declared.refusal.ContentFault.TheVariants.{Input}
 use Rattle.strand_app.specs.declared.fetching.OpenFault.{OpenFault}
 use Rattle.strand_app.specs.Fetching.{IsSaid}
-use Rattle.strand_inputs.specs.Crash.{crash_of}
+use Rattle.strand_inputs.specs.Crash.{crash_words_of}
 use Rattle.strand_app.specs.Contents.{crash_in}
-use Rattle.strand_app.proofs.Read.{found, input_said, crash_words}
+use Rattle.strand_app.proofs.FetchesFile.{found, input_said, crash_words}
 use Rattle.strand_app.proofs.contents.crash_of.Goals as goal
 
 pub returns-in-Ok-clause-says : goal.returns-in-Ok-clause-says
 unfolding crash_in
 returns-in-Ok-clause-says c =
     let said = rw (ap length c.persistent.ensures.persistent) at c.in-Ok.ensures.gives in
-    found 1048576 Input c.args.bytes.now (crash_of (length c.args.image.now.persistent) c.args.bytes.now) c.in-Ok.words c.requires said
+    found MOST_CRASH_BYTES Input c.args.bytes.now (crash_words_of (length c.args.image.now.persistent) c.args.bytes.now) c.in-Ok.words c.requires said
 
 pub returns-in-Ok-clause-long : goal.returns-in-Ok-clause-long
 returns-in-Ok-clause-long c = crash_words _ _ _ c.in-Ok.ensures.gives ∙ ap length c.persistent.ensures.persistent
@@ -22,4 +23,4 @@ unfolding crash_in
 returns-in-Err-clause-says c =
     let said = rw (ap length c.persistent.ensures.persistent) at c.in-Err.ensures.gives in
     subst (λ (e : OpenFault). IsSaid 4 (λ words. words) (crash_in c.args.image.now c.args.bytes.now) (Err e)) (sym c.input_fault.ensures)
-    (input_said 4 (λ words. words) 1048576 c.args.bytes.now (crash_of (length c.args.image.now.persistent) c.args.bytes.now) c.in-Err.fault c.requires said)
+    (input_said 4 (λ words. words) MOST_CRASH_BYTES c.args.bytes.now (crash_words_of (length c.args.image.now.persistent) c.args.bytes.now) c.in-Err.fault c.requires said)

@@ -7,7 +7,7 @@ use Rattle.strand_app.specs.declared.opening.RunFiles.{RunFiles}
 use Rattle.strand_app.specs.Contents.{machine_in, image_in, schedule_in}
 use Rattle.strand_app.specs.Opening.{OpensTo, all_inputs, names_of}
 use Rattle.strand_app.specs.RunFiles.{run_files}
-use Rattle.strand_app.proofs.Opened.{first_none, first_more, fails_next}
+use Rattle.strand_app.proofs.OpensTo.{first_none, first_more, fails_next}
 use Rattle.strand_app.proofs.RunReads.{wants_machine, wants_image, image_refused, wants_schedule, schedule_refused, all_read}
 use Rattle.strand_app.proofs.opening.open_run_files.Goals as goal
 

@@ -3,7 +3,7 @@ use Rattle.strand_inputs.specs.declared.mode.Mode.{Mode}
 use Rattle.strand_run.specs.Outcome.{RunsTo, view_of}
 use Rattle.strand_run.specs.Seen.{Reports}
 use Rattle.strand_app.specs.Opening.{inputs_of}
-use Rattle.strand_app.proofs.Ran.{may_of, ran_refused}
+use Rattle.strand_app.proofs.RunsOnBank.{may_of, ran_refused}
 use Rattle.strand_modules.specs.Seen.{bank_seen}
 use Rattle.strand_app.proofs.running.run_on_bank.Goals as goal
 

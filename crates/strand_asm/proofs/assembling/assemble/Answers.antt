@@ -1,5 +1,5 @@
 use Rattle.std.proofs.Common.{sym}
-use Rattle.strand_asm.proofs.Fits.{fits}
+use Rattle.strand_asm.proofs.ImageLimits.{fits}
 use Rattle.strand_asm.proofs.assembling.assemble.Goals as goal
 
 pub finish-requires : goal.finish-requires

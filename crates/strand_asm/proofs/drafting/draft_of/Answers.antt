@@ -5,7 +5,7 @@ use Rattle.std.proofs.lemmas.Result.{err_from_is_err_and}
 use Rattle.strand_base.specs.Text.{lines_of}
 use Rattle.strand_asm.specs.Layout.{over_lines}
 use Rattle.strand_asm.specs.Draft.{draft_of, drafted}
-use Rattle.strand_asm.proofs.Lines.{goes_on, stops, no_line}
+use Rattle.strand_asm.proofs.EachLine.{goes_on, stops, no_line}
 use Rattle.strand_asm.proofs.drafting.draft_of.Goals as goal
 
 pub loop-span-init : goal.loop-span-init

@@ -4,7 +4,7 @@ use Rattle.std.proofs.lemmas.List.{drop_all}
 use Rattle.std.proofs.lemmas.Result.{err_from_is_err_and}
 use Rattle.strand_base.specs.Text.{lines_of}
 use Rattle.strand_asm.specs.Layout.{IsAtMost, laid, layout_of, nothing, over_lines}
-use Rattle.strand_asm.proofs.Lines.{goes_on, stops, no_line}
+use Rattle.strand_asm.proofs.EachLine.{goes_on, stops, no_line}
 use Rattle.strand_asm.proofs.laying.layout_of.Goals as goal
 
 empty_is_small : IsAtMost 0 nothing

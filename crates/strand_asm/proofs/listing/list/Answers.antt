@@ -1,7 +1,7 @@
 use Rattle.std.proofs.lemmas.Result.{err_from_is_err_and}
-use Rattle.strand_base.proofs.Fronts.{front_before, puts_after}
-use Rattle.strand_asm.proofs.Again.{again, ok_when}
-use Rattle.strand_asm.proofs.Lists.{listing_parts}
+use Rattle.strand_base.proofs.AppendsFront.{front_before, puts_after}
+use Rattle.strand_asm.proofs.ListAgain.Image.{again, ok_when}
+use Rattle.strand_asm.proofs.ListText.{listing_parts}
 use Rattle.strand_asm.proofs.listing.list.Goals as goal
 
 pub returns-in_err-put_front-clause-text : goal.returns-in_err-put_front-clause-text

@@ -1,8 +1,8 @@
 use Rattle.std.proofs.Common.{ℕ, ◌++◌, ◌∷◌, [], arith, below_more}
 use Rattle.std.proofs.lemmas.Result.{err_from_is_err_and}
-use Rattle.strand_base.proofs.Fronts.{loop_more, loop_all, loop_stops}
+use Rattle.strand_base.proofs.AppendsFront.{loop_more, loop_all, loop_stops}
 use Rattle.strand_asm.specs.Listing.{code_lines, code_text}
-use Rattle.strand_asm.proofs.Lists.{lines_of_map}
+use Rattle.strand_asm.proofs.ListText.{lines_of_map}
 use Rattle.strand_asm.proofs.listing.put_code.Goals as goal
 
 pub returns-in_err-put_code_word-clause-text : goal.returns-in_err-put_code_word-clause-text

@@ -1,8 +1,8 @@
 use Rattle.std.proofs.Common.{◌+◌, ◌++◌, ◌∷◌, [], ℕ, List, subst, drop, get_or, arith}
 use Rattle.std.proofs.lemmas.Result.{err_from_is_err_and}
-use Rattle.strand_base.proofs.Fronts.{SoFar, puts_after, so_far_more, so_far_none, so_far_stops}
+use Rattle.strand_base.proofs.AppendsFront.{SoFar, puts_after, so_far_more, so_far_none, so_far_stops}
 use Rattle.strand_asm.specs.Listing.{data_lines, lines_text, space_text, word_text}
-use Rattle.strand_asm.proofs.Lists.{data_end, data_word, data_zero}
+use Rattle.strand_asm.proofs.ListText.{data_end, data_word, data_zero}
 use Rattle.strand_asm.proofs.listing.put_data.Goals as goal
 use Rattle.strand_asm.proofs.listing.put_data.Goals.{then-word-eq0, else-word-eq0+in_ok-put_data_word}
 

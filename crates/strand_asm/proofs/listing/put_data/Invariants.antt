@@ -1,5 +1,5 @@
 use Rattle.std.proofs.Common.{◌≤◌, drop}
-use Rattle.strand_base.proofs.Fronts.{SoFar}
+use Rattle.strand_base.proofs.AppendsFront.{SoFar}
 use Rattle.strand_asm.specs.Listing.{data_lines, lines_text}
 use Rattle.strand_asm.proofs.listing.put_data.Given as goal
 

@@ -1,8 +1,8 @@
 use Rattle.std.proofs.Common.{ℕ, ◌++◌, ◌∷◌, [], arith}
 use Rattle.std.proofs.lemmas.Result.{err_from_is_err_and}
-use Rattle.strand_base.proofs.Fronts.{loop_more, loop_all, loop_stops}
+use Rattle.strand_base.proofs.AppendsFront.{loop_more, loop_all, loop_stops}
 use Rattle.strand_asm.specs.Listing.{entry_lines, entry_text}
-use Rattle.strand_asm.proofs.Lists.{lines_of_map}
+use Rattle.strand_asm.proofs.ListText.{lines_of_map}
 use Rattle.strand_asm.proofs.listing.put_entries.Goals as goal
 
 pub returns-in_err-put_entry : goal.returns-in_err-put_entry

@@ -1,6 +1,6 @@
 use Rattle.std.proofs.lemmas.Result.{err_from_is_err_and}
 use Rattle.strand_isa.specs.Print.{instr_text}
-use Rattle.strand_asm.proofs.Lists.{line_printed, print_stops}
+use Rattle.strand_asm.proofs.ListText.{line_printed, print_stops}
 use Rattle.strand_asm.proofs.listing.put_instr.Goals as goal
 
 pub returns-in_err-print_instr : goal.returns-in_err-print_instr

@@ -2,7 +2,7 @@ use Rattle.std.proofs.Common.{◌++◌}
 use lib.Chars.{codes}
 use Rattle.strand_asm.specs.Listing.{data_lines, lines_text}
 use Rattle.std.proofs.lemmas.Result.{err_from_is_err_and}
-use Rattle.strand_base.proofs.Fronts.{front_before, puts_after}
+use Rattle.strand_base.proofs.AppendsFront.{front_before, puts_after}
 use Rattle.strand_asm.proofs.listing.put_sections.Goals as goal
 
 pub returns-in_err-put_section : goal.returns-in_err-put_section

@@ -1,5 +1,5 @@
 use Rattle.std.proofs.lemmas.List.{append-nil}
-use Rattle.strand_asm.proofs.Lists.{no_space, some_space}
+use Rattle.strand_asm.proofs.ListText.{no_space, some_space}
 use Rattle.strand_asm.proofs.listing.put_space.Goals as goal
 
 pub returns-then-zeros-eq0 : goal.returns-then-zeros-eq0

@@ -1,6 +1,6 @@
 use lib.Chars.{codes}
 use Rattle.std.proofs.lemmas.Result.{err_from_is_err_and}
-use Rattle.strand_base.proofs.Fronts.{front_before, puts_after}
+use Rattle.strand_base.proofs.AppendsFront.{front_before, puts_after}
 use Rattle.strand_asm.proofs.listing.put_word.Goals as goal
 
 pub returns-in_err-put : goal.returns-in_err-put

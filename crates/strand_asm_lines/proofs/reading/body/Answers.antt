@@ -1,6 +1,6 @@
 use Rattle.std.proofs.Common.{◌<◌, length, arith}
 use Rattle.std.proofs.lemmas.Bool.Decides.{nat_tests}
-use Rattle.strand_asm_lines.proofs.Steps.{body_some}
+use Rattle.strand_asm_lines.proofs.LineParts.{body_some}
 use Rattle.strand_asm_lines.proofs.reading.body.Goals as goal
 
 pub returns-in-Some : goal.returns-in-Some

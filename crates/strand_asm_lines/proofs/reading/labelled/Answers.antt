@@ -1,6 +1,6 @@
 use Rattle.std.proofs.Common.{arith, sym}
 use Rattle.strand_asm_lines.proofs.Pieces.{length_pieces}
-use Rattle.strand_asm_lines.proofs.Steps.{labelled_more}
+use Rattle.strand_asm_lines.proofs.LineParts.{labelled_more}
 use Rattle.strand_asm_lines.proofs.reading.labelled.Goals as goal
 
 pub returns-in-Some-cut-clause-parts : goal.returns-in-Some-cut-clause-parts

@@ -1,5 +1,5 @@
 use Rattle.std.proofs.Common.{◌*◌, ◌<◌, ◌^◌, arith}
-use Rattle.strand_base.proofs.Values.{one_more, stops}
+use Rattle.strand_base.proofs.DigitValues.{one_more, stops}
 use Rattle.strand_base.proofs.digits.digits_value.Goals as goal
 
 pub returns-in_err-checked_mul : goal.returns-in_err-checked_mul

@@ -1,6 +1,6 @@
 use Rattle.std.specs.Char.{is_ascii_hexdigit}
 use Rattle.strand_base.specs.Number.{hexadecimal_of}
-use Rattle.strand_base.proofs.Values.{digits_found}
+use Rattle.strand_base.proofs.DigitValues.{digits_found}
 use Rattle.strand_base.proofs.hexadecimal.read_hex.Goals as goal
 
 pub number_in-requires-clause-digits : goal.number_in-requires-clause-digits

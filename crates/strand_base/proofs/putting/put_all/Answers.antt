@@ -1,6 +1,6 @@
 use Rattle.std.proofs.Common.{arith, length, ◌≤◌, ◌<◌, drop, length-drop}
 use Rattle.std.proofs.lemmas.List.{take_rest}
-use Rattle.strand_base.proofs.Taken.{takes_more}
+use Rattle.strand_base.proofs.TakesAll.{takes_more}
 use Rattle.strand_base.proofs.putting.put_all.Goals as goal
 
 pub loop-at-preserved : goal.loop-at-preserved

@@ -2,10 +2,10 @@ use Rattle.std.proofs.Common.{◌≡◌, ◌+◌, suc, ◌||◌, ◌∙◌, leng
 use Rattle.std.specs.Prelude.{slice_get, slice_index}
 use Rattle.std.proofs.lemmas.List.{length-set}
 use Rattle.strand_base.specs.Counting.{count_below}
-use Rattle.strand_base.proofs.Counting.{count_yes, count_no}
+use Rattle.strand_base.proofs.BelowBound.{count_yes, count_no}
 use Rattle.strand_buffer.specs.Entries.{is_eligible, eligible_places, word_waits}
-use Rattle.strand_base.proofs.Finding.{list_at, list_none}
-use Rattle.strand_buffer.proofs.Linked.{waits_up_to, waits_linked, waits_more, known_more}
+use Rattle.strand_base.proofs.ListBelow.{list_at, list_none}
+use Rattle.strand_buffer.proofs.WordLinks.{waits_up_to, waits_linked, waits_more, known_more}
 use Rattle.strand_buffer.proofs.passing.eligible_at.Goals as goal
 use Rattle.strand_buffer.proofs.passing.eligible_at.Goals.{then-is_eligible+else-passed-j, else-is_eligible, then-is_buffered, else-is_buffered}
 

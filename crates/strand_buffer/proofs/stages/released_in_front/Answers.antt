@@ -1,6 +1,6 @@
 use Rattle.std.proofs.Common.{◌≡◌, ◌+◌, suc, ◌∙◌, sym, ap, drop, arith}
 use Rattle.strand_buffer.specs.Entries.{trimmed}
-use Rattle.strand_buffer.proofs.Trimmed.{trim_past, trim_here}
+use Rattle.strand_buffer.proofs.EntryStages.{trim_past, trim_here}
 use Rattle.strand_buffer.proofs.stages.released_in_front.Goals as goal
 
 pub loop-count-preserved : goal.loop-count-preserved

@@ -1,7 +1,7 @@
 -- The laws are lemmas.
-use Rattle.strand_cache.proofs.Step.{step_hits, step_stands}
-use Rattle.strand_cache.proofs.Once.{lines_counted}
-use Rattle.strand_cache.proofs.Totals.{hits_step, misses_step}
+use Rattle.strand_cache.proofs.Lists.Step.{step_hits, step_stands}
+use Rattle.strand_cache.proofs.Lists.Once.{lines_counted}
+use Rattle.strand_cache.proofs.Lists.Totals.{hits_step, misses_step}
 use Rattle.strand_cache.proofs.laws.cache_laws.Goals as goal
 
 pub returns-clause-hits : goal.returns-clause-hits

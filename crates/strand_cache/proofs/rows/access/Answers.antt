@@ -4,9 +4,9 @@ use Rattle.std.specs.Prelude.{length}
 use Rattle.std.proofs.lemmas.List.{get_or_default, length-set}
 use Rattle.strand_exec.specs.Memory.{extents_of}
 use Rattle.strand_cache.specs.Coherence.{Among}
-use Rattle.strand_cache.proofs.Memories.{low_line}
-use Rattle.strand_cache.proofs.Coherence.{put_back_extents}
-use Rattle.strand_cache.proofs.Accessing.{all_hit, all_lines, all_accessed}
+use Rattle.strand_cache.proofs.Memory.Words.{low_line}
+use Rattle.strand_cache.proofs.Memory.Coherence.{put_back_extents}
+use Rattle.strand_cache.proofs.Memory.SetAccess.{all_hit, all_lines, all_accessed}
 use Rattle.strand_cache.proofs.rows.access.Goals as goal
 
 pub settle-requires : goal.settle-requires

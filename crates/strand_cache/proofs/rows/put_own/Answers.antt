@@ -2,7 +2,7 @@
 use Rattle.std.proofs.Common.{◌≡◌, Some, sym, ap, ◌∙◌, arith}
 use Rattle.std.specs.Prelude.{◌-◌, not, ◌==◌, slice_get}
 use Rattle.strand_cache.specs.Copies.{others}
-use Rattle.strand_cache.proofs.Members.{length_filter, among_filter, get_among}
+use Rattle.strand_cache.proofs.Memory.RowMembers.{length_filter, among_filter, get_among}
 use Rattle.strand_cache.proofs.rows.put_own.Goals as goal
 
 pub put-requires-clause-within : goal.put-requires-clause-within

@@ -4,10 +4,10 @@ use Rattle.std.specs.Prelude.{map}
 use Rattle.strand_exec.specs.Memory.{extents_of, word_in}
 use Rattle.strand_cache.specs.Copies.{cleaned, is_changed, row_of}
 use Rattle.strand_cache.specs.Coherence.{Coheres}
-use Rattle.strand_cache.proofs.Memories.{line_other}
-use Rattle.strand_cache.proofs.Members.{find_among}
-use Rattle.strand_cache.proofs.Coherence.{recalled}
-use Rattle.strand_cache.proofs.Elsewhere.{everywhere, free_elsewhere, same_lines, cleaned_free}
+use Rattle.strand_cache.proofs.Memory.Words.{line_other}
+use Rattle.strand_cache.proofs.Memory.RowMembers.{find_among}
+use Rattle.strand_cache.proofs.Memory.Coherence.{recalled}
+use Rattle.strand_cache.proofs.Memory.OtherCores.{everywhere, free_elsewhere, same_lines, cleaned_free}
 use Rattle.strand_cache.proofs.rows.recall.Goals as goal
 
 pub returns-in-None-clause-free : goal.returns-in-None-clause-free

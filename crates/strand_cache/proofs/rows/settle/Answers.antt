@@ -3,17 +3,17 @@ use Rattle.std.proofs.Common.{refl, ap, ◌∙◌, subst}
 use Rattle.std.specs.Prelude.{not, ◌==◌}
 use Rattle.strand_exec.specs.Memory.{extents_of}
 use Rattle.strand_cache.specs.Lists.{without}
-use Rattle.strand_cache.specs.Copies.{lines_of, others, row_of}
+use Rattle.strand_cache.specs.Copies.{row_lines, others, row_of}
 use Rattle.strand_cache.specs.Coherence.{Among}
-use Rattle.strand_cache.proofs.Members.{among_filter}
-use Rattle.strand_cache.proofs.Coherence.{dropped}
-use Rattle.strand_cache.proofs.Elsewhere.{everywhere, lost_absent, others_lines}
+use Rattle.strand_cache.proofs.Memory.RowMembers.{among_filter}
+use Rattle.strand_cache.proofs.Memory.Coherence.{dropped}
+use Rattle.strand_cache.proofs.Memory.OtherCores.{everywhere, lost_absent, others_lines}
 use Rattle.strand_cache.proofs.rows.settle.Goals as goal
 
 pub returns-clause-takes : goal.returns-clause-takes
 returns-clause-takes c stores core ne =
     let lost = everywhere (others c.args.line) c.recall.new.rows c.drop_elsewhere.new.rows c.args.core refl c.drop_elsewhere.auto.rows c.drop_elsewhere.ensures.dropped in
-    ap lines_of (lost core ne) ∙ others_lines c.args.line (row_of c.recall.new.rows core) ∙ ap (without c.args.line) (c.recall.ensures.lines core)
+    ap row_lines (lost core ne) ∙ others_lines c.args.line (row_of c.recall.new.rows core) ∙ ap (without c.args.line) (c.recall.ensures.lines core)
 
 pub returns-clause-free : goal.returns-clause-free
 returns-clause-free c core h ne a =

@@ -2,7 +2,7 @@ use Rattle.std.proofs.Common.{◌≡◌, ℕ, ◌+◌, ◌<◌, suc, false, List
 use Rattle.std.specs.Prelude.{◌==◌, slice_get, slice_index_or}
 use Rattle.std.proofs.lemmas.Bool.{eq-eqb, ne_eqb}
 use Rattle.std.proofs.lemmas.Option.{slice_get-get_or}
-use Rattle.strand_base.proofs.Counting.{any_from}
+use Rattle.strand_base.proofs.BelowBound.{any_from}
 use Rattle.strand_control.specs.declared.request.Request.{Request}
 use Rattle.strand_control.specs.Flight.{has_word, older_waits}
 use Rattle.strand_control.proofs.controller.older_waits.Goals as goal

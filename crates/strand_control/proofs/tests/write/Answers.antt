@@ -1,5 +1,5 @@
 use Rattle.std.proofs.Common.{◌∙◌}
-use Rattle.strand_control.proofs.Lies.{lies_after, size_after}
+use Rattle.strand_control.proofs.LieInBank.{lies_after, size_after}
 use Rattle.strand_control.proofs.tests.write.Goals as goal
 
 pub returns : goal.returns

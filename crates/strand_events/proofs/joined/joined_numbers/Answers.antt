@@ -1,7 +1,7 @@
 use Rattle.std.proofs.Common.{arith, ap, length, List, ℕ}
 use Rattle.std.specs.Prelude.{slice_index_or}
 use Rattle.strand_events.proofs.Joins.{persist_there, joined_more, joined_same}
-use Rattle.strand_events.proofs.Kept.{persists_most}
+use Rattle.strand_events.proofs.TraceInvariant.{persists_most}
 use Rattle.strand_events.proofs.joined.joined_numbers.Goals.{then-event-ends+in_ok-push, else-event-ends}
 use Rattle.strand_events.proofs.joined.joined_numbers.Goals as goal
 

@@ -1,4 +1,4 @@
-use Rattle.strand_events.proofs.Consequences.{before_forward, before_chain, words_before, epochs_order, strands_join}
+use Rattle.strand_events.proofs.PersistOrder.Laws.{before_forward, before_chain, words_before, epochs_order, strands_join}
 use Rattle.strand_events.proofs.laws.persist_order_laws.Goals as goal
 
 pub returns-clause-forward : goal.returns-clause-forward

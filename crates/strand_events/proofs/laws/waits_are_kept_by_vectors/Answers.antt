@@ -1,5 +1,5 @@
-use Rattle.strand_events.proofs.ByOrder.{next_wait}
-use Rattle.strand_events.proofs.VectorSteps.{own_moves, others_stay}
+use Rattle.strand_events.proofs.Waits.Next.{next_wait}
+use Rattle.strand_events.proofs.Waits.Vectors.{own_moves, others_stay}
 use Rattle.strand_events.proofs.laws.waits_are_kept_by_vectors.Goals as goal
 
 pub returns-clause-next : goal.returns-clause-next

@@ -1,7 +1,7 @@
-use Rattle.strand_events.proofs.Counted.{counted_earlier}
-use Rattle.strand_events.proofs.WaitKept.{wait_kept}
-use Rattle.strand_events.proofs.Meeting.{counts_means, met_means, met_from}
-use Rattle.strand_events.proofs.ByPrefixes.{met_firsts, firsts_met}
+use Rattle.strand_events.proofs.Waits.Counts.{counted_earlier}
+use Rattle.strand_events.proofs.Waits.LongerTrace.{wait_kept}
+use Rattle.strand_events.proofs.Waits.IsMet.{counts_means, met_means, met_from}
+use Rattle.strand_events.proofs.Waits.Prefixes.{met_firsts, firsts_met}
 use Rattle.strand_events.proofs.laws.waits_are_met_by_prefixes.Goals as goal
 
 pub returns-clause-kept : goal.returns-clause-kept

@@ -1,5 +1,5 @@
-use Rattle.strand_events.proofs.Counted.{wait_is}
-use Rattle.strand_events.proofs.Covered.{covered, handed_to}
+use Rattle.strand_events.proofs.Waits.Counts.{wait_is}
+use Rattle.strand_events.proofs.Waits.OtherStrands.{covered, handed_to}
 use Rattle.strand_events.proofs.laws.waits_cover_other_strands.Goals as goal
 
 pub returns-clause-greatest : goal.returns-clause-greatest

@@ -1,7 +1,7 @@
 use Rattle.std.proofs.Common.{subst}
 use Rattle.strand_exec.specs.declared.effect.Effect.{Effect}
 use Rattle.strand_exec.specs.Effects.{IsAligned}
-use Rattle.strand_exec.proofs.MaskLemmas.{stored_is}
+use Rattle.strand_exec.proofs.StoreMask.{stored_is}
 use Rattle.strand_exec.proofs.planning.asked.Goals as goal
 
 -- the merge of the plan's mask and bits puts the store's bytes in their place

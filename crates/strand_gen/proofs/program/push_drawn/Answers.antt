@@ -4,7 +4,7 @@ use Rattle.strand_isa.specs.declared.instr.Instr.{Instr}
 use Rattle.strand_isa.specs.Word.{word_of}
 use Rattle.strand_gen.specs.Draws.{draw_list}
 use Rattle.strand_gen.specs.Program.{instruction}
-use Rattle.strand_gen.proofs.Lists.{one_more, one_word_more}
+use Rattle.strand_gen.proofs.DrawList.{one_more, one_word_more}
 use Rattle.strand_gen.proofs.program.push_drawn.Goals as goal
 
 pub loop-init : goal.loop-init

@@ -5,7 +5,7 @@ use Rattle.strand_inputs.specs.Schedule.{IsBelow}
 use Rattle.strand_inputs.specs.declared.step.Step.{Step}
 use Rattle.strand_gen.specs.Draws.{draw_list, initial_state}
 use Rattle.strand_gen.specs.Inputs.{step}
-use Rattle.strand_gen.proofs.Lists.{one_more}
+use Rattle.strand_gen.proofs.DrawList.{one_more}
 use Rattle.strand_gen.proofs.schedule.generated_schedule.Goals as goal
 
 pub loop-init : goal.loop-init

@@ -1,6 +1,6 @@
 use Rattle.std.proofs.Common.{rules, arith, ◌≡◌, ◌<◌, ℕ, length, nat_le, false}
 use Rattle.std.proofs.lemmas.Bool.Decides.{nat_tests}
-use Rattle.strand_base.proofs.Texts.{none_passes}
+use Rattle.strand_base.proofs.LinesAndWords.{none_passes}
 use Rattle.strand_image.proofs.image.with_entries.Goals as goal
 
 below : (m n : ℕ) → nat_le m n ≡ false → n < m

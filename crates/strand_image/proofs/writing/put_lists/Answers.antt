@@ -1,5 +1,5 @@
 use Rattle.std.proofs.lemmas.Result.{err_from_is_err_and}
-use Rattle.strand_base.proofs.Fronts.{front_before, front_after, puts_after}
+use Rattle.strand_base.proofs.AppendsFront.{front_before, front_after, puts_after}
 use Rattle.strand_image.proofs.writing.put_lists.Goals as goal
 
 pub returns-in_err-put_u32s : goal.returns-in_err-put_u32s

@@ -1,6 +1,6 @@
 use Rattle.std.proofs.Common.{arith}
 use Rattle.std.proofs.lemmas.Result.{err_from_is_err_and}
-use Rattle.strand_base.proofs.Fronts.{loop_more, loop_all, loop_stops}
+use Rattle.strand_base.proofs.AppendsFront.{loop_more, loop_all, loop_stops}
 use Rattle.strand_image.specs.Image.{bytes_of_u32}
 use Rattle.strand_image.proofs.writing.put_u32s.Goals as goal
 

@@ -1,5 +1,5 @@
 use Rattle.std.proofs.lemmas.Result.{err_from_is_err_and}
-use Rattle.strand_base.proofs.Fronts.{front_before, puts_after}
+use Rattle.strand_base.proofs.AppendsFront.{front_before, puts_after}
 use Rattle.strand_image.specs.Image.{image_bytes, header_bytes, list_bytes}
 use Rattle.strand_image.proofs.Spelling.{image_again}
 use Rattle.strand_image.proofs.writing.write_image.Goals as goal

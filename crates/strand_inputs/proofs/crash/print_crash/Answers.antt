@@ -1,8 +1,8 @@
 use Rattle.std.proofs.Common.{arith}
 use Rattle.std.proofs.lemmas.Result.{err_from_is_err_and}
-use Rattle.strand_base.proofs.Fronts.{loop_stops}
+use Rattle.strand_base.proofs.AppendsFront.{loop_stops}
 use Rattle.strand_inputs.specs.Crash.{word_bytes}
-use Rattle.strand_inputs.proofs.Crashes.{crash_again}
+use Rattle.strand_inputs.proofs.CrashSpelling.{crash_again}
 use Rattle.strand_inputs.proofs.crash.print_crash.Goals as goal
 
 pub returns-in_err-put_word-clause-text : goal.returns-in_err-put_word-clause-text

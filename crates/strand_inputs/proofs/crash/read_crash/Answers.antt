@@ -1,6 +1,6 @@
 use Rattle.std.proofs.Common.{◌∙◌, sym, ap, arith}
 use Rattle.strand_inputs.specs.Crash.{crash_bytes}
-use Rattle.strand_inputs.proofs.Crashes.{words_spelt}
+use Rattle.strand_inputs.proofs.CrashSpelling.{words_spelt}
 use Rattle.strand_inputs.proofs.crash.read_crash.Goals as goal
 
 pub returns-in-Ok-clause-spelling : goal.returns-in-Ok-clause-spelling

@@ -1,5 +1,5 @@
 use Rattle.std.proofs.Common.{refl, sym, ◌∙◌}
-use Rattle.strand_inputs.proofs.Crashes.{words_more, no_words}
+use Rattle.strand_inputs.proofs.CrashSpelling.{words_more, no_words}
 use Rattle.strand_inputs.proofs.crash.read_words.Goals as goal
 
 pub loop-k-init : goal.loop-k-init

@@ -1,4 +1,4 @@
-use Rattle.strand_inputs.proofs.Runs.{schedule_again}
+use Rattle.strand_inputs.proofs.ScheduleAgain.{schedule_again}
 use Rattle.strand_inputs.proofs.schedule_printing.print_schedule.Goals as goal
 
 pub returns-clause-again : goal.returns-clause-again

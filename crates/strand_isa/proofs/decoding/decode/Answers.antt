@@ -1,6 +1,6 @@
 use Rattle.std.proofs.Common.{ap, sym, ◌∙◌}
 use Rattle.strand_isa.specs.Decode.{instr_of}
-use Rattle.strand_isa.proofs.Reading.{read_back}
+use Rattle.strand_isa.proofs.DecodeEncode.{read_back}
 use Rattle.strand_isa.proofs.decoding.decode.Goals as goal
 
 pub returns-clause-every : goal.returns-clause-every

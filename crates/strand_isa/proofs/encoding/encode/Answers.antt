@@ -1,6 +1,6 @@
 use Rattle.std.proofs.Common.{ap, ◌∙◌}
 use Rattle.strand_isa.specs.Decode.{instr_of}
-use Rattle.strand_isa.proofs.Reading.{read_back}
+use Rattle.strand_isa.proofs.DecodeEncode.{read_back}
 use Rattle.strand_isa.proofs.encoding.encode.Goals as goal
 
 -- a word is read back as its instruction

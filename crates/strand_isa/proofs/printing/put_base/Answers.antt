@@ -1,6 +1,6 @@
 use Rattle.std.proofs.Common.{[], ◌∷◌}
 use Rattle.std.proofs.lemmas.Result.{err_from_is_err_and}
-use Rattle.strand_base.proofs.Fronts.{front_before, puts_after}
+use Rattle.strand_base.proofs.AppendsFront.{front_before, puts_after}
 use Rattle.strand_isa.proofs.printing.put_base.Goals as goal
 
 pub returns-in_err-put : goal.returns-in_err-put

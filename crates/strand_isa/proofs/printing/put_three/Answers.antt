@@ -1,5 +1,5 @@
 use Rattle.std.proofs.lemmas.Result.{err_from_is_err_and}
-use Rattle.strand_base.proofs.Fronts.{front_before, puts_after}
+use Rattle.strand_base.proofs.AppendsFront.{front_before, puts_after}
 use Rattle.strand_isa.proofs.printing.put_three.Goals as goal
 
 pub returns-in_err-put_two : goal.returns-in_err-put_two

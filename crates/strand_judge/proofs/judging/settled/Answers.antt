@@ -2,11 +2,11 @@ use Rattle.std.proofs.Common.{◌≡◌, ◌<◌, length, arith, subst}
 use Rattle.std.specs.Prelude.{slice_index}
 use Rattle.std.proofs.lemmas.List.{get_or_read}
 use Rattle.strand_judge.specs.Words.{crash_of}
-use Rattle.strand_judge.proofs.Gathering.Marked.{mark_within}
+use Rattle.strand_judge.proofs.Least.Marks.{mark_within}
 use Rattle.strand_judge.specs.Offered.{AreOffered}
 use Rattle.strand_judge.specs.Gathered.{IsBrought, AreJoined, AreForced}
-use Rattle.strand_judge.proofs.Gathering.Seeded.{seeded}
-use Rattle.strand_judge.proofs.Gathering.Worked.{work_first, work_step, work_smaller, work_end}
+use Rattle.strand_judge.proofs.Least.Seeds.{seeded}
+use Rattle.strand_judge.proofs.Least.Work.{work_first, work_step, work_smaller, work_end}
 use Rattle.strand_judge.proofs.judging.settled.Goals as goal
 
 pub mark_forced-requires-clause-offered : goal.mark_forced-requires-clause-offered

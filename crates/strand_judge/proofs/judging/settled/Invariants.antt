@@ -1,7 +1,7 @@
 use Rattle.std.proofs.Common.{◌+◌, ◌-◌, length}
 use Rattle.strand_judge.specs.Words.{crash_of}
 use Rattle.strand_judge.specs.Worklist.{left}
-use Rattle.strand_judge.proofs.Gathering.Worked.{IsWorked}
+use Rattle.strand_judge.proofs.Least.Work.{IsWorked}
 use Rattle.strand_judge.proofs.judging.settled.Given as goal
 
 abbrev pub invariant-loop-done : goal.invariant-loop-done

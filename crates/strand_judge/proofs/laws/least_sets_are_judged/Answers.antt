@@ -1,4 +1,4 @@
-use Rattle.strand_judge.proofs.Judged.{judged_both, settled_both, settled_all, least_judged}
+use Rattle.strand_judge.proofs.Least.Sets.{judged_both, settled_both, settled_all, least_judged}
 use Rattle.strand_judge.proofs.laws.least_sets_are_judged.Goals as goal
 
 pub returns-clause-judged : goal.returns-clause-judged

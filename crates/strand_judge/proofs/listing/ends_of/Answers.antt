@@ -1,8 +1,8 @@
 use Rattle.std.proofs.Common.{◌+◌, refl, arith}
 use Rattle.std.specs.Prelude.{slice_index_or, slice_set}
 use Rattle.strand_order.specs.declared.edge.Edge.{Edge}
-use Rattle.strand_order.proofs.Listed.{edge_at, ends_within}
-use Rattle.strand_judge.proofs.Gathering.Following.{ends_more}
+use Rattle.strand_order.proofs.Edges.List.{edge_at, ends_within}
+use Rattle.strand_judge.proofs.Least.Edges.{ends_more}
 use Rattle.strand_judge.proofs.listing.ends_of.Goals as goal
 
 pub index_mut-requires : goal.index_mut-requires

@@ -2,10 +2,10 @@ use Rattle.std.proofs.Common.{◌-◌, inl, inr, length, ap, arith}
 use Rattle.std.specs.Prelude.{slice_index_or}
 use Rattle.strand_order.specs.declared.edge.Edge.{Edge}
 use Rattle.strand_order.specs.Edges.{edges_of}
-use Rattle.strand_order.proofs.Listed.{edge_at, ends_within}
-use Rattle.strand_order.proofs.Noting.Last.{since_most}
+use Rattle.strand_order.proofs.Edges.List.{edge_at, ends_within}
+use Rattle.strand_order.proofs.Edges.LastEvent.{since_most}
 use Rattle.strand_judge.specs.Ends.{leads_at}
-use Rattle.strand_judge.proofs.Gathering.Following.{follow_first, follow_step, follow_end}
+use Rattle.strand_judge.proofs.Least.Edges.{follow_first, follow_step, follow_end}
 use Rattle.strand_judge.proofs.listing.follow.Goals as goal
 
 pub loop-k-init : goal.loop-k-init

@@ -1,5 +1,5 @@
 use Rattle.std.proofs.Common.{◌≤◌, length}
-use Rattle.strand_judge.proofs.Gathering.Following.{FollowedFrom}
+use Rattle.strand_judge.proofs.Least.Edges.{FollowedFrom}
 use Rattle.strand_judge.proofs.listing.follow.Given as goal
 
 abbrev pub invariant-loop-k : goal.invariant-loop-k

@@ -1,5 +1,5 @@
 use Rattle.std.proofs.Common.{◌-◌, arith}
-use Rattle.strand_judge.proofs.Gathering.Marked.{marked_one}
+use Rattle.strand_judge.proofs.Least.Marks.{marked_one}
 use Rattle.strand_judge.proofs.listing.mark_since.Goals as goal
 
 pub returns : goal.returns

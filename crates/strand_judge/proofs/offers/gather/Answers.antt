@@ -5,7 +5,7 @@ use Rattle.strand_events.specs.declared.event.Event.{Event}
 use Rattle.strand_events.specs.declared.event.Event.TheVariants.{Load}
 use Rattle.strand_judge.specs.Words.{crash_of}
 use Rattle.strand_judge.specs.Offered.{AreOffered}
-use Rattle.strand_judge.proofs.Gathering.Offering.{offered_more}
+use Rattle.strand_judge.proofs.Least.Offers.{offered_more}
 use Rattle.strand_judge.proofs.offers.gather.Goals as goal
 
 pub note-requires-clause-firsts : goal.note-requires-clause-firsts

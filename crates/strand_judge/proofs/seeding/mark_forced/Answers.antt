@@ -2,7 +2,7 @@ use Rattle.std.proofs.Common.{◌≡◌, ◌<◌, length, arith, subst}
 use Rattle.std.specs.Prelude.{slice_index}
 use Rattle.std.proofs.lemmas.List.{get_or_read}
 use Rattle.strand_judge.specs.Gathered.{IsMarkedMore}
-use Rattle.strand_judge.proofs.Gathering.Seeded.{forced_none, forced_same, forced_more}
+use Rattle.strand_judge.proofs.Least.Seeds.{forced_none, forced_same, forced_more}
 use Rattle.strand_judge.proofs.seeding.mark_forced.Goals as goal
 use Rattle.strand_judge.proofs.seeding.mark_forced.Goals.{then-first-place+in_ok-mark_since, else-first-place}
 

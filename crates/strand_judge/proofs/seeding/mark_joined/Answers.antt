@@ -1,7 +1,7 @@
 use Rattle.std.proofs.Common.{refl, arith, subst}
-use Rattle.strand_judge.proofs.Numbered.{joined_at, joined_within}
+use Rattle.strand_judge.proofs.Least.JoinedNumbers.{joined_at, joined_within}
 use Rattle.strand_judge.specs.Gathered.{AreJoined}
-use Rattle.strand_judge.proofs.Gathering.Seeded.{joined_none, joined_more}
+use Rattle.strand_judge.proofs.Least.Seeds.{joined_none, joined_more}
 use Rattle.strand_judge.proofs.seeding.mark_joined.Goals as goal
 
 pub bounds-persists-p : goal.bounds-persists-p

@@ -4,8 +4,8 @@ use Rattle.std.proofs.lemmas.Option.{slice_get-get_or}
 use Rattle.strand_events.specs.declared.event.Event.{Event}
 use Rattle.strand_events.specs.declared.event.Event.TheVariants.{Load}
 use Rattle.strand_judge.specs.Words.{crash_of}
-use Rattle.strand_judge.proofs.Gathering.Worked.{brought}
-use Rattle.strand_judge.proofs.Gathering.Offering.{asked_by, asked_within}
+use Rattle.strand_judge.proofs.Least.Work.{brought}
+use Rattle.strand_judge.proofs.Least.Offers.{asked_by, asked_within}
 use Rattle.strand_judge.proofs.serving.serve.Goals as goal
 
 -- the event that was read

@@ -2,8 +2,8 @@ use Rattle.std.proofs.Common.{◌≡◌, ◌<◌, length, ap, arith}
 use Rattle.std.specs.Prelude.{slice_index}
 use Rattle.std.proofs.lemmas.List.{get_or_read}
 use Rattle.strand_events.specs.Trace.{persists_of}
-use Rattle.strand_events.proofs.Kept.{persists_most}
-use Rattle.strand_judge.proofs.Numbered.{persist_within}
+use Rattle.strand_events.proofs.TraceInvariant.{persists_most}
+use Rattle.strand_judge.proofs.Least.JoinedNumbers.{persist_within}
 use Rattle.strand_judge.proofs.tests.joined.Goals as goal
 
 pub is_joined-requires : goal.is_joined-requires

@@ -3,7 +3,7 @@ use Rattle.std.specs.Prelude.{Some}
 use Rattle.strand_events.specs.declared.event.Event.{Event}
 use Rattle.strand_events.specs.Trace.{epoch, persists_of}
 use Rattle.strand_queue.specs.declared.item.Item.TheVariants.{Persist}
-use Rattle.strand_machine.proofs.NextEvent.{newest_store}
+use Rattle.strand_machine.proofs.Stand.NextEvent.{newest_store}
 use Rattle.strand_machine.proofs.core_steps.newest_item.Goals as goal
 
 pub returns-in-Store-true-default-default-default :

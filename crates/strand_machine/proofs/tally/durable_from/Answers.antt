@@ -1,5 +1,5 @@
 use Rattle.std.proofs.Common.{◌∙◌, sym, arith}
-use Rattle.strand_machine.proofs.Tallying.{durable_next, durable_here}
+use Rattle.strand_machine.proofs.DurableFrom.{durable_next, durable_here}
 use Rattle.strand_machine.proofs.tally.durable_from.Goals as goal
 
 pub loop-count-smaller : goal.loop-count-smaller

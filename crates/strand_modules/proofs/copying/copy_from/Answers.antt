@@ -1,6 +1,6 @@
 use Rattle.std.proofs.Common.{◌≡◌, ◌∙◌, arith}
 use Rattle.strand_modules.specs.Copying.{Copies}
-use Rattle.strand_modules.proofs.Sizes.{size_seen, changes_in}
+use Rattle.strand_modules.proofs.PartSize.{size_seen, changes_in}
 use Rattle.strand_modules.proofs.copying.copy_from.Goals as goal
 
 pub copy_words-requires : goal.copy_words-requires

@@ -1,5 +1,5 @@
 use Rattle.std.proofs.Common.{◌∙◌, arith}
-use Rattle.strand_modules.proofs.Copied.{copies_none, copies_more}
+use Rattle.strand_modules.proofs.Copies.{copies_none, copies_more}
 use Rattle.strand_modules.proofs.copying.copy_words.Goals as goal
 
 pub loop-at-init : goal.loop-at-init

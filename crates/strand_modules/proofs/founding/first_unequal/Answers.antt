@@ -1,5 +1,5 @@
 use Rattle.std.proofs.Common.{◌≡◌, ◌∙◌, sym, arith}
-use Rattle.strand_modules.proofs.Sizes.{size_seen, all_more}
+use Rattle.strand_modules.proofs.PartSize.{size_seen, all_more}
 use Rattle.strand_modules.proofs.founding.first_unequal.Goals as goal
 
 pub returns-then-part_words-size-clause-some : goal.returns-then-part_words-size-clause-some

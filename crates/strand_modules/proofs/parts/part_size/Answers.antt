@@ -1,5 +1,5 @@
-use Rattle.std.proofs.Common.{rules, arith, ◌≡◌, ◌<◌, ◌≤◌, length}
-use Rattle.strand_modules.proofs.Sizes.{part_size-more, part_size-bound}
+use Rattle.std.proofs.Common.{rules, arith, ◌≡◌, ◌<◌, ◌≤◌}
+use Rattle.strand_modules.proofs.PartSize.{part_size-more, part_size-bound}
 use Rattle.strand_modules.proofs.parts.part_size.Goals as goal
 use Rattle.strand_modules.proofs.parts.part_size.Goals.{then-words-size, else-words-size}
 

@@ -5,7 +5,7 @@ use Rattle.strand_events.specs.declared.event.Event.{Event}
 use Rattle.strand_events.specs.declared.event.Event.TheVariants.{Load}
 use Rattle.strand_order.specs.Edges.{edges_below, edges_to}
 use Rattle.strand_order.specs.Seen.{IsSeen}
-use Rattle.strand_order.proofs.Noting.Kept.{edges_more}
+use Rattle.strand_order.proofs.Edges.Lasts.{edges_more}
 use Rattle.strand_order.proofs.building.edges_of.Goals as goal
 
 -- the event that was read

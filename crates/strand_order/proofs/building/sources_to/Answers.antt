@@ -4,25 +4,25 @@ use Rattle.std.specs.Ordering.{nat_cmp}
 use Rattle.std.specs.BTreeMap.{get}
 use Rattle.strand_events.specs.declared.event.Event.{Event}
 use Rattle.strand_events.specs.Trace.{core_of, word_of}
-use Rattle.strand_order.specs.declared.marks.WordMarks.{WordMarks}
-use Rattle.strand_order.specs.declared.marks.Sources.{Sources}
-use Rattle.strand_order.specs.CoreMarks.{no_marks}
+use Rattle.strand_order.specs.declared.lasts.WordLasts.{WordLasts}
+use Rattle.strand_order.specs.declared.lasts.Sources.{Sources}
+use Rattle.strand_order.specs.CoreLasts.{no_lasts}
 use Rattle.strand_order.specs.Sources.{sources_of}
 use Rattle.strand_order.specs.Walks.{IsWalked}
-use Rattle.strand_order.specs.Seen.{marks_in, AreSmall}
+use Rattle.strand_order.specs.Seen.{lasts_in, AreSmall}
 use Rattle.strand_inputs.specs.declared.mode.Mode.{Mode}
 use Rattle.strand_order.specs.declared.seen.Seen.{Seen}
-use Rattle.strand_order.proofs.Finding.Found.{given_by, marks_small, last_among, word_walk, core_walk}
+use Rattle.strand_order.proofs.Edges.Sources.{given_by, lasts_small, last_among, word_walk, core_walk}
 use Rattle.strand_order.proofs.building.sources_to.Goals as goal
 
 -- the sources by the numbers that calls gave
-by_calls : (s : Seen) (e : Event) (mode : Mode) (core word : ℕ) (w : WordMarks) (x : Sources) → core ≡ core_of e → word ≡ word_of e → w ≡ marks_in (get nat_cmp s.words word) → x ≡ sources_of mode e (slice_index_or s.cores core no_marks) w → x ≡ given_by s e mode
-by_calls s e mode core word w x a b d f = f ∙ ap (λ y. sources_of mode e (slice_index_or s.cores y no_marks) w) a ∙ ap (sources_of mode e (slice_index_or s.cores (core_of e) no_marks)) (d ∙ ap (λ y. marks_in (get nat_cmp s.words y)) b)
+by_calls : (s : Seen) (e : Event) (mode : Mode) (core word : ℕ) (w : WordLasts) (x : Sources) → core ≡ core_of e → word ≡ word_of e → w ≡ lasts_in (get nat_cmp s.words word) → x ≡ sources_of mode e (slice_index_or s.cores core no_lasts) w → x ≡ given_by s e mode
+by_calls s e mode core word w x a b d f = f ∙ ap (λ y. sources_of mode e (slice_index_or s.cores y no_lasts) w) a ∙ ap (sources_of mode e (slice_index_or s.cores (core_of e) no_lasts)) (d ∙ ap (λ y. lasts_in (get nat_cmp s.words y)) b)
 
 pub sources_of-sources-requires : goal.sources_of-sources-requires
 sources_of-sources-requires c =
     let k = c.requires.seen in
-    subst (λ x. AreSmall (slice_index_or c.args.seen.now.cores x no_marks)) (sym c.core.ensures) (marks_small k.0 c.args.n c.args.e k.1 c.requires.core c.args.seen.now k.2 c.requires.small)
+    subst (λ x. AreSmall (slice_index_or c.args.seen.now.cores x no_lasts)) (sym c.core.ensures) (lasts_small k.0 c.args.n c.args.e k.1 c.requires.core c.args.seen.now k.2 c.requires.small)
 
 pub walk-requires-clause-last : goal.walk-requires-clause-last
 walk-requires-clause-last c =

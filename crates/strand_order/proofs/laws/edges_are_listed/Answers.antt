@@ -1,5 +1,5 @@
 use Rattle.std.proofs.Common.{length}
-use Rattle.strand_order.proofs.Listed.{edge_listed, listed_edge, listed_rising}
+use Rattle.strand_order.proofs.Edges.List.{edge_listed, listed_edge, listed_rising}
 use Rattle.strand_order.proofs.laws.edges_are_listed.Goals as goal
 
 pub returns-clause-all : goal.returns-clause-all

@@ -1,5 +1,5 @@
-use Rattle.strand_order.proofs.GraphComplete.{before_path}
-use Rattle.strand_order.proofs.GraphSound.{path_before}
+use Rattle.strand_order.proofs.Paths.Before.{before_path}
+use Rattle.strand_order.proofs.Paths.Path.{path_before}
 use Rattle.strand_order.proofs.laws.paths_are_persist_order.Goals as goal
 
 pub returns-clause-path : goal.returns-clause-path

@@ -1,6 +1,6 @@
 use Rattle.std.proofs.Common.{◌≤◌, sym, arith, subst}
-use Rattle.strand_order.specs.Marks.{cut}
-use Rattle.strand_order.proofs.Following.{WalkedTo, walk_first, walk_step, walk_end, cut_most, last_within}
+use Rattle.strand_order.specs.Lasts.{cut}
+use Rattle.strand_order.proofs.Edges.Walk.{WalkedTo, walk_first, walk_step, walk_end, cut_most, last_within}
 use Rattle.strand_order.proofs.walking.walk.Goals as goal
 use Rattle.strand_order.proofs.walking.walk.Goals.{then-last-gt0, else-last-gt0+then-single-gt0}
 

@@ -1,6 +1,6 @@
 use Rattle.std.proofs.Common.{ℕ, Bool, ◌+◌, ◌≤◌, length}
 use Rattle.strand_order.specs.Walks.{AreSources}
-use Rattle.strand_order.proofs.Following.{WalkedTo}
+use Rattle.strand_order.proofs.Edges.Walk.{WalkedTo}
 use Rattle.strand_order.proofs.walking.walk.Given as goal
 
 abbrev pub invariant-loop-last : goal.invariant-loop-last

@@ -3,9 +3,9 @@ use Rattle.std.specs.Prelude.{slice_index, slice_index_or}
 use Rattle.strand_events.specs.Trace.{event_is, is_persist}
 use Rattle.strand_order.specs.declared.edge.Edge.{Edge}
 use Rattle.strand_order.specs.Edges.{edges_of}
-use Rattle.strand_order.proofs.Listed.{listed_edge, edge_at, ends_within}
+use Rattle.strand_order.proofs.Edges.List.{listed_edge, edge_at, ends_within}
 use Rattle.strand_path.specs.Checked.{goes_up}
-use Rattle.strand_path.proofs.Edged.{one_more, all_rise}
+use Rattle.strand_path.proofs.Check.Edges.{one_more, all_rise}
 use Rattle.strand_path.proofs.checking.are_levels.Goals as goal
 
 pub goes_up-requires-clause-i : goal.goes_up-requires-clause-i

@@ -1,6 +1,6 @@
 use Rattle.std.proofs.Common.{sym, subst, arith}
 use Rattle.strand_path.specs.Chains.{IsChain, events_of}
-use Rattle.strand_path.proofs.Bounds.{none_longer, route_chain}
+use Rattle.strand_path.proofs.Check.Bounds.{none_longer, route_chain}
 use Rattle.strand_path.proofs.checking.check_path.Goals as goal
 
 pub returns-clause-chain : goal.returns-clause-chain

@@ -1,9 +1,9 @@
 use Rattle.std.proofs.Common.{◌≡◌, ◌+◌, suc, true, sym, ap, ◌∙◌, arith, subst, add-one}
 use Rattle.std.specs.Prelude.{slice_index}
 use Rattle.strand_events.specs.Trace.{event_is, is_persist}
-use Rattle.strand_order.proofs.GraphSound.{edge_less}
+use Rattle.strand_order.proofs.Paths.Path.{edge_less}
 use Rattle.strand_path.specs.Checked.{has_at, number_of}
-use Rattle.strand_path.proofs.Along.{along_same, along_more, along_stops, IsAlong}
+use Rattle.strand_path.proofs.Check.Chain.{along_same, along_more, along_stops, IsAlong}
 use Rattle.strand_path.proofs.checking.is_along.Goals as goal
 use Rattle.strand_path.proofs.checking.is_along.Goals.{then-is_persist_at+else-not-has_at, else-is_persist_at}
 

@@ -1,6 +1,6 @@
 use Rattle.std.proofs.Common.{◌≡◌, ◌<◌, ◌≤◌, length, slice_index}
 use Rattle.strand_path.specs.Checked.{number_of}
-use Rattle.strand_path.proofs.Along.{IsAlong}
+use Rattle.strand_path.proofs.Check.Chain.{IsAlong}
 use Rattle.strand_path.proofs.checking.is_along.Given as goal
 
 abbrev pub invariant-loop-k : goal.invariant-loop-k

@@ -5,9 +5,9 @@ use Rattle.strand_path.specs.Chains.{events_of}
 use Rattle.strand_path.specs.Checked.{number_of}
 use Rattle.strand_path.specs.Chosen.{IsChosen}
 use Rattle.strand_path.specs.Picking.{ArePicked}
-use Rattle.strand_path.proofs.Bounds.{number_within}
-use Rattle.strand_path.proofs.Back.Picked.{members_rise}
-use Rattle.strand_path.proofs.Levelled.{picked_chosen, events_again}
+use Rattle.strand_path.proofs.Check.Bounds.{number_within}
+use Rattle.strand_path.proofs.LongestPath.Members.{members_rise}
+use Rattle.strand_path.proofs.LongestPath.ChosenChain.{picked_chosen, events_again}
 use Rattle.strand_path.proofs.choosing.longest.Goals as goal
 
 pub returns-clause-chosen : goal.returns-clause-chosen

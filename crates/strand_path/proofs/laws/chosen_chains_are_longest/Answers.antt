@@ -1,4 +1,4 @@
-use Rattle.strand_path.proofs.ChosenLaws.{chosen_one, chosen_chain, chosen_longest}
+use Rattle.strand_path.proofs.ChosenChains.{chosen_one, chosen_chain, chosen_longest}
 use Rattle.strand_path.proofs.laws.chosen_chains_are_longest.Goals as goal
 
 pub returns-clause-one : goal.returns-clause-one

@@ -2,9 +2,9 @@ use Rattle.std.proofs.Common.{◌≡◌, ◌-◌, ◌<◌, ◌∙◌, suc, lengt
 use Rattle.std.specs.Prelude.{slice_index}
 use Rattle.std.proofs.lemmas.List.{length-set, get_or_read}
 use Rattle.strand_events.specs.Trace.{is_persist}
-use Rattle.strand_events.proofs.Within.{event_within}
+use Rattle.strand_events.proofs.EventWithin.{event_within}
 use Rattle.strand_path.specs.Picking.{is_of_level, IsSome, IsPick, ArePicked}
-use Rattle.strand_path.proofs.Back.Picked.{greatest_some, picked_more}
+use Rattle.strand_path.proofs.LongestPath.Members.{greatest_some, picked_more}
 use Rattle.strand_path.proofs.picking.members.Goals as goal
 
 pub first_of-requires-clause-some_ : goal.first_of-requires-clause-some_

@@ -3,7 +3,7 @@ use Rattle.std.specs.Prelude.{slice_get, slice_index}
 use Rattle.strand_order.specs.Graph.{is_edge}
 use Rattle.strand_order.specs.Edges.{edges_of}
 use Rattle.strand_path.specs.Seeking.{joins, IsSought}
-use Rattle.strand_path.proofs.Sought.{joins_found, joins_all, joined_first, joined_more}
+use Rattle.strand_path.proofs.Check.Route.{joins_found, joins_all, joined_first, joined_more}
 use Rattle.strand_path.proofs.routes.is_route.Goals as goal
 
 pub loop-k-init : goal.loop-k-init

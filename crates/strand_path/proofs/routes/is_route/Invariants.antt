@@ -1,4 +1,4 @@
-use Rattle.strand_path.proofs.Sought.{IsJoinedTo}
+use Rattle.strand_path.proofs.Check.Route.{IsJoinedTo}
 use Rattle.strand_path.proofs.routes.is_route.Given as goal
 
 abbrev pub invariant-loop-k : goal.invariant-loop-k

@@ -3,12 +3,12 @@ use Rattle.std.specs.Prelude.{slice_index, slice_index_or, replicate}
 use Rattle.std.proofs.lemmas.List.{length-replicate, get_or-replicate}
 use Rattle.strand_order.specs.declared.edge.Edge.{Edge}
 use Rattle.strand_order.specs.Edges.{edges_of}
-use Rattle.strand_order.proofs.Listed.{listed_edge, edge_at, ends_within}
-use Rattle.strand_order.proofs.GraphSound.{edge_less}
+use Rattle.strand_order.proofs.Edges.List.{listed_edge, edge_at, ends_within}
+use Rattle.strand_order.proofs.Paths.Path.{edge_less}
 use Rattle.strand_path.specs.Building.{AreOwn, raised}
-use Rattle.strand_path.proofs.Pass.Raised.{raised_first, raised_levels, raised_supported}
+use Rattle.strand_path.proofs.LongestPath.Levels.{raised_first, raised_levels, raised_supported}
 use Rattle.strand_path.specs.Tracing.{firsts_after, vias_after}
-use Rattle.strand_path.proofs.Pass.Traced.{AreTraced, traced_first, traced_more, traced_linked, traced_firsts}
+use Rattle.strand_path.proofs.LongestPath.Links.{AreTraced, traced_first, traced_more, traced_linked, traced_firsts}
 use Rattle.strand_path.proofs.tracing.traces_of.Goals as goal
 
 pub loop-edge-init : goal.loop-edge-init

@@ -1,4 +1,4 @@
-use Rattle.strand_path.proofs.Pass.Traced.{AreTraced}
+use Rattle.strand_path.proofs.LongestPath.Links.{AreTraced}
 use Rattle.strand_path.proofs.tracing.traces_of.Given as goal
 
 abbrev pub invariant-loop-edge : goal.invariant-loop-edge

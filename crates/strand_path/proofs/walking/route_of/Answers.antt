@@ -1,9 +1,9 @@
 use Rattle.std.proofs.Common.{◌≡◌, ◌-◌, ◌<◌, ◌≤◌, ◌∙◌, inl, inr, suc, length, sym, ap, subst, arith}
 use Rattle.std.specs.Prelude.{slice_index, ◌==◌}
 use Rattle.std.proofs.lemmas.Bool.{cases_lt, both_ways, eq-eqb}
-use Rattle.strand_events.proofs.Within.{event_within}
-use Rattle.strand_path.proofs.Back.Picked.{members_rise, member_linked}
-use Rattle.strand_path.proofs.Back.Routed.{route_more, route_whole}
+use Rattle.strand_events.proofs.EventWithin.{event_within}
+use Rattle.strand_path.proofs.LongestPath.Members.{members_rise, member_linked}
+use Rattle.strand_path.proofs.LongestPath.Route.{route_more, route_whole}
 use Rattle.strand_events.specs.Trace.{is_persist}
 use Rattle.strand_path.proofs.walking.route_of.Goals as goal
 

@@ -1,4 +1,4 @@
-use Rattle.strand_path.proofs.Back.Routed.{IsRouteTo}
+use Rattle.strand_path.proofs.LongestPath.Route.{IsRouteTo}
 use Rattle.strand_path.proofs.walking.route_of.Given as goal
 
 abbrev pub invariant-loop-k : goal.invariant-loop-k

@@ -1,7 +1,7 @@
 use Rattle.std.proofs.Common.{◌≡◌, ◌-◌, ◌++◌, suc, sym, ap, ◌∙◌, arith, subst}
 use Rattle.std.specs.Prelude.{slice_index, reverse}
 use Rattle.std.proofs.lemmas.List.{get_or_read}
-use Rattle.strand_path.proofs.Back.WayBack.{IsBack, back_first, back_within, back_step, back_end}
+use Rattle.strand_path.proofs.LongestPath.WayBack.{IsBack, back_first, back_within, back_step, back_end}
 use Rattle.strand_path.proofs.walking.walk.Goals as goal
 
 pub loop-x-init : goal.loop-x-init

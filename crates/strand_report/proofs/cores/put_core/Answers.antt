@@ -1,6 +1,6 @@
 use Rattle.std.proofs.Common.{ap}
 use Rattle.std.proofs.lemmas.Result.{err_from_is_err_and}
-use Rattle.strand_base.proofs.Fronts.{front_before, puts_after}
+use Rattle.strand_base.proofs.AppendsFront.{front_before, puts_after}
 use Rattle.strand_exec.specs.Core.{Core}
 use Rattle.strand_report.specs.Numbered.{numbered}
 use Rattle.strand_report.specs.Cores.{core_line, reg_line}

@@ -1,7 +1,7 @@
 use Rattle.std.proofs.Common.{arith}
 use Rattle.std.proofs.lemmas.Result.{err_from_is_err_and}
 use Rattle.strand_report.specs.Cores.{core_lines}
-use Rattle.strand_report.proofs.Numbered.{numbered_more, numbered_stops, numbered_all}
+use Rattle.strand_report.proofs.NumberedLoop.{numbered_more, numbered_stops, numbered_all}
 use Rattle.strand_report.proofs.cores.put_cores.Goals as goal
 
 pub returns-in_err-put_core : goal.returns-in_err-put_core

@@ -1,6 +1,6 @@
 use Rattle.std.proofs.Common.{◌≡◌, ◌++◌}
 use Rattle.strand_report.specs.Cores.{reg_line}
-use Rattle.strand_report.proofs.Numbered.{numbered_so_far}
+use Rattle.strand_report.proofs.NumberedLoop.{numbered_so_far}
 use Rattle.strand_report.proofs.cores.put_regs.Given as goal
 
 abbrev pub invariant-loop-reg : goal.invariant-loop-reg

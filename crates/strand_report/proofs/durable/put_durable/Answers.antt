@@ -2,7 +2,7 @@ use Rattle.std.proofs.Common.{codes}
 use Rattle.std.proofs.lemmas.Result.{err_from_is_err_and}
 use Rattle.strand_report.specs.Persists.{marked}
 use Rattle.strand_report.proofs.MemberLines.{members_parts}
-use Rattle.strand_report.proofs.Parts.{in_parts, further, stopped, last}
+use Rattle.strand_report.proofs.TextParts.{in_parts, further, stopped, last}
 use Rattle.strand_report.proofs.durable.put_durable.Goals as goal
 
 pub returns-in_err-put_count : goal.returns-in_err-put_count

@@ -1,6 +1,6 @@
 use Rattle.std.proofs.Common.{arith}
 use Rattle.std.proofs.lemmas.Result.{err_from_is_err_and}
-use Rattle.strand_report.proofs.Marked.{members_more, members_same, members_stop, members_all}
+use Rattle.strand_report.proofs.MarkLoop.{members_more, members_same, members_stop, members_all}
 use Rattle.strand_report.proofs.durable.put_marked.Goals.{then-mark+in_ok-put_spaced, else-mark}
 use Rattle.strand_report.proofs.durable.put_marked.Goals as goal
 

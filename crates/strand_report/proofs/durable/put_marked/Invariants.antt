@@ -1,5 +1,5 @@
 use Rattle.std.proofs.Common.{◌≡◌, ◌++◌}
-use Rattle.strand_report.proofs.Marked.{members_below}
+use Rattle.strand_report.proofs.MarkLoop.{members_below}
 use Rattle.strand_report.proofs.durable.put_marked.Given as goal
 
 abbrev pub invariant-loop-number : goal.invariant-loop-number

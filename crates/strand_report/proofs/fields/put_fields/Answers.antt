@@ -1,7 +1,7 @@
 use Rattle.std.proofs.lemmas.List.{take_rest}
 use Rattle.std.proofs.lemmas.Result.{err_from_is_err_and}
 use Rattle.strand_report.proofs.FieldLines.{line_of_fields}
-use Rattle.strand_report.proofs.Parts.{in_parts, further, stopped, last}
+use Rattle.strand_report.proofs.TextParts.{in_parts, further, stopped, last}
 use Rattle.strand_report.proofs.fields.put_fields.Goals as goal
 
 pub returns-in_err-put_field : goal.returns-in_err-put_field

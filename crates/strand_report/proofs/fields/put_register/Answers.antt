@@ -1,6 +1,6 @@
 use Rattle.std.proofs.Common.{codes, decimal}
 use Rattle.std.proofs.lemmas.Result.{err_from_is_err_and}
-use Rattle.strand_base.proofs.Fronts.{front_before}
+use Rattle.strand_base.proofs.AppendsFront.{front_before}
 use Rattle.strand_report.proofs.fields.put_register.Goals as goal
 
 pub returns-in_err-put : goal.returns-in_err-put

@@ -1,6 +1,6 @@
 use Rattle.std.proofs.Common.{[], ◌∷◌}
 use Rattle.std.proofs.lemmas.Result.{err_from_is_err_and}
-use Rattle.strand_base.proofs.Fronts.{front_before}
+use Rattle.strand_base.proofs.AppendsFront.{front_before}
 use Rattle.strand_report.specs.Fields.{field_text}
 use Rattle.strand_report.proofs.fields.put_spaced.Goals as goal
 

@@ -1,6 +1,6 @@
 use Rattle.std.proofs.Common.{refl}
 use Rattle.std.proofs.lemmas.Result.{err_from_is_err_and}
-use Rattle.strand_report.proofs.Parts.{in_parts, further, stopped, last}
+use Rattle.strand_report.proofs.TextParts.{in_parts, further, stopped, last}
 use Rattle.strand_report.proofs.members.put_count.Goals as goal
 
 pub returns-in_err-put : goal.returns-in_err-put

@@ -1,6 +1,6 @@
 use Rattle.std.proofs.lemmas.Result.{err_from_is_err_and}
 use Rattle.strand_report.proofs.MemberLines.{members_parts}
-use Rattle.strand_report.proofs.Parts.{in_parts, further, stopped, last}
+use Rattle.strand_report.proofs.TextParts.{in_parts, further, stopped, last}
 use Rattle.strand_report.proofs.members.put_members.Goals as goal
 
 pub returns-in_err-put_count : goal.returns-in_err-put_count

@@ -1,6 +1,6 @@
 use Rattle.std.proofs.Common.{◌∷◌, arith, decimal}
 use Rattle.std.proofs.lemmas.Result.{err_from_is_err_and}
-use Rattle.strand_base.proofs.Fronts.{loop_more, loop_all, loop_stops}
+use Rattle.strand_base.proofs.AppendsFront.{loop_more, loop_all, loop_stops}
 use Rattle.strand_report.proofs.members.put_numbers.Goals as goal
 
 pub returns-in_err-put_spaced : goal.returns-in_err-put_spaced

@@ -1,6 +1,6 @@
 use Rattle.std.proofs.Common.{arith}
 use Rattle.std.proofs.lemmas.Result.{err_from_is_err_and}
-use Rattle.strand_base.proofs.Fronts.{loop_more, loop_all, loop_stops}
+use Rattle.strand_base.proofs.AppendsFront.{loop_more, loop_all, loop_stops}
 use Rattle.strand_report.specs.Outs.{out_line}
 use Rattle.strand_report.proofs.outs.put_outs.Goals as goal
 

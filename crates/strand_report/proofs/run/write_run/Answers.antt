@@ -1,7 +1,7 @@
 use Rattle.std.proofs.Common.{refl}
 use Rattle.std.proofs.lemmas.Result.{err_from_is_err_and}
 use Rattle.strand_report.specs.Report.{report_text}
-use Rattle.strand_report.proofs.Parts.{in_parts, further, stopped, last_of_all}
+use Rattle.strand_report.proofs.TextParts.{in_parts, further, stopped, last_of_all}
 use Rattle.strand_report.proofs.run.write_run.Goals as goal
 
 pub returns-in_err-put_stop : goal.returns-in_err-put_stop

@@ -4,7 +4,7 @@ use lib.Chars.{codes}
 use Rattle.strand_base.specs.Text.{line_text}
 use Rattle.std.proofs.lemmas.Result.{err_from_is_err_and}
 use Rattle.strand_report.specs.Summary.{summary_text}
-use Rattle.strand_report.proofs.Parts.{in_parts, further, stopped, last_of_all}
+use Rattle.strand_report.proofs.TextParts.{in_parts, further, stopped, last_of_all}
 use Rattle.strand_report.proofs.summary.write_summary.Goals as goal
 
 pub returns-in_err-put_number : goal.returns-in_err-put_number

@@ -5,8 +5,8 @@ use Rattle.strand_base.specs.Puts.{AppendsFront}
 use Rattle.strand_events.specs.declared.event.Event.TheVariants.{Load}
 use Rattle.strand_events.specs.Trace.{is_persist, event_is, passes}
 use Rattle.strand_report.specs.Trace.{event_text, event_line}
-use Rattle.strand_report.proofs.Counted.{count_more, count_same}
-use Rattle.strand_report.proofs.Numbered.{numbered_more, numbered_stops, numbered_all}
+use Rattle.strand_report.proofs.CountLoop.{count_more, count_same}
+use Rattle.strand_report.proofs.NumberedLoop.{numbered_more, numbered_stops, numbered_all}
 use Rattle.strand_report.proofs.trace.put_events.Goals.{then-is_persist, else-is_persist}
 use Rattle.strand_report.proofs.trace.put_events.Goals as goal
 

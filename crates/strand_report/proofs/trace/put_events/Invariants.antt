@@ -1,8 +1,8 @@
 use Rattle.std.proofs.Common.{◌≡◌, ◌++◌}
 use Rattle.strand_events.specs.Trace.{is_persist, event_is}
 use Rattle.strand_report.specs.Trace.{event_text}
-use Rattle.strand_report.proofs.Counted.{Counted}
-use Rattle.strand_report.proofs.Numbered.{numbered_so_far}
+use Rattle.strand_report.proofs.CountLoop.{Counted}
+use Rattle.strand_report.proofs.NumberedLoop.{numbered_so_far}
 use Rattle.strand_report.proofs.trace.put_events.Given as goal
 
 abbrev pub invariant-loop-place : goal.invariant-loop-place

@@ -1,7 +1,7 @@
 use Rattle.std.proofs.Common.{◌≡◌, ◌++◌, subst}
 use Rattle.std.proofs.lemmas.Result.{err_from_is_err_and}
 use Rattle.strand_base.specs.Puts.{AppendsFront, Puts}
-use Rattle.strand_base.proofs.Fronts.{front_before, puts_after}
+use Rattle.strand_base.proofs.AppendsFront.{front_before, puts_after}
 use Rattle.strand_report.specs.Trace.{event_lines, edge_lines}
 use Rattle.strand_report.proofs.trace.write_trace.Goals as goal
 

@@ -1,6 +1,7 @@
 use Rattle.std.proofs.Common.{codes, ap}
 use Rattle.std.proofs.lemmas.Result.{err_from_is_err_and}
-use Rattle.strand_base.proofs.Fronts.{front_before, puts_after}
+use Rattle.strand_base.specs.declared.regions.TheConstants.{PERSISTENT_BASE, VOLATILE_BASE}
+use Rattle.strand_base.proofs.AppendsFront.{front_before, puts_after}
 use Rattle.strand_exec.specs.Memory.{Memory}
 use Rattle.strand_report.specs.Numbered.{numbered}
 use Rattle.strand_report.specs.Words.{word_line}
@@ -10,12 +11,12 @@ pub returns-in_err-put_words : goal.returns-in_err-put_words
 returns-in_err-put_words c =
     let p = err_from_is_err_and c.from_residual.result c.from_residual.ensures.1 in
     let m = c.args.memory.now in
-    rw p.1 (front_before (numbered (word_line (codes "vis") 0x20000000) m.volatile) (numbered (word_line (codes "vis") 0x40000000) m.persistent) _ _
+    rw p.1 (front_before (numbered (word_line (codes "vis") VOLATILE_BASE) m.volatile) (numbered (word_line (codes "vis") PERSISTENT_BASE) m.persistent) _ _
     (rw (c.deref.ensures.value, ap (λ (m : Memory). m.volatile) c.memory.view_is) at c.in_err-put_words.ensures))
 
 pub returns : goal.returns
 returns c =
     let m = c.args.memory.now in
-    puts_after c.put_words-2.result (numbered (word_line (codes "vis") 0x20000000) m.volatile) (numbered (word_line (codes "vis") 0x40000000) m.persistent) _ _ _
+    puts_after c.put_words-2.result (numbered (word_line (codes "vis") VOLATILE_BASE) m.volatile) (numbered (word_line (codes "vis") PERSISTENT_BASE) m.persistent) _ _ _
     (rw (c.deref.ensures.value, ap (λ (m : Memory). m.volatile) c.memory.view_is) at c.in_ok-put_words.ensures)
     (rw (c.deref-2.ensures.value, ap (λ (m : Memory). m.persistent) c.memory.view_is) at c.put_words-2.ensures)

@@ -1,6 +1,6 @@
 use Rattle.std.proofs.Common.{◌≡◌, ◌++◌}
 use Rattle.strand_report.specs.Words.{word_line}
-use Rattle.strand_report.proofs.Numbered.{numbered_so_far}
+use Rattle.strand_report.proofs.NumberedLoop.{numbered_so_far}
 use Rattle.strand_report.proofs.words.put_words.Given as goal
 
 abbrev pub invariant-loop-place : goal.invariant-loop-place

@@ -1,5 +1,5 @@
-use Rattle.strand_rules.proofs.GoodRun.{run_closed, run_joined}
-use Rattle.strand_rules.proofs.Reached.{reached_stands}
+use Rattle.strand_rules.proofs.Order.Run.{run_closed, run_joined}
+use Rattle.strand_rules.proofs.IsReached.{reached_stands}
 use Rattle.strand_rules.proofs.laws.durable_sets_are_allowed.Goals as goal
 
 pub returns-clause-closed : goal.returns-clause-closed

@@ -1,4 +1,4 @@
-use Rattle.strand_rules.proofs.Images.{image_begins, image_more, image_one}
+use Rattle.strand_rules.proofs.Image.AllWords.{image_begins, image_more, image_one}
 use Rattle.strand_rules.proofs.laws.images_follow_the_trace.Goals as goal
 
 pub returns-clause-begins : goal.returns-clause-begins

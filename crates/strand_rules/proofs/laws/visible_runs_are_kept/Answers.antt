@@ -1,6 +1,6 @@
 use Rattle.std.proofs.Common.{refl}
 use Rattle.strand_rules.specs.Cycle.{start_at}
-use Rattle.strand_rules.proofs.Seen.{run_seen}
+use Rattle.strand_rules.proofs.Visible.{run_seen}
 use Rattle.strand_rules.proofs.laws.visible_runs_are_kept.Goals as goal
 
 pub returns : goal.returns

@@ -2,7 +2,7 @@ use Rattle.std.proofs.Common.{◌∙◌, subst, List}
 use Rattle.strand_events.specs.declared.event.Event.{Event}
 use Rattle.strand_inputs.specs.declared.mode.Mode.{Mode}
 use Rattle.strand_path.specs.Chosen.{IsChosenChain}
-use Rattle.strand_path.proofs.ChosenLaws.{chosen_longest}
+use Rattle.strand_path.proofs.ChosenChains.{chosen_longest}
 use Rattle.strand_run.proofs.reporting.report.Goals as goal
 
 pub returns : goal.returns

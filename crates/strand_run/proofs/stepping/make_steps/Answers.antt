@@ -1,6 +1,6 @@
 use Rattle.std.proofs.Common.{[], ◌∷◌, ◌∙◌, arith, ap, refl, length, length-append}
 use Rattle.strand_rules.specs.Visible.{Program}
-use Rattle.strand_run.proofs.Made.{made_none, below_at, made_done, made_bubble, made_all, made_until}
+use Rattle.strand_run.proofs.MakeSteps.{made_none, below_at, made_done, made_bubble, made_all, made_until}
 use Rattle.strand_run.proofs.stepping.make_steps.Goals as goal
 use Rattle.strand_run.proofs.stepping.make_steps.Goals.{in-Done, in-Bubble}
 

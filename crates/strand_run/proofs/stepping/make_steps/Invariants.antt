@@ -1,7 +1,7 @@
 use Rattle.std.proofs.Common.{◌≤◌, length}
 use Rattle.std.specs.Prelude.{vec_capacity}
 use Rattle.strand_modules.specs.Seen.{bank_seen}
-use Rattle.strand_run.proofs.Made.{MadeSteps}
+use Rattle.strand_run.proofs.MakeSteps.{MadeSteps}
 use Rattle.strand_run.proofs.stepping.make_steps.Given as goal
 
 abbrev pub invariant-loop-i : goal.invariant-loop-i

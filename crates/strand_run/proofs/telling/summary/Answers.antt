@@ -5,7 +5,7 @@ use Rattle.strand_inputs.specs.declared.mode.Mode.{Mode}
 use Rattle.strand_judge.specs.Verdicts.{IsVerdict}
 use Rattle.strand_judge.specs.Words.{crash_of}
 use Rattle.strand_path.specs.Chosen.{IsChosenChain}
-use Rattle.strand_path.proofs.ChosenLaws.{chosen_longest}
+use Rattle.strand_path.proofs.ChosenChains.{chosen_longest}
 use Rattle.strand_report.specs.Persists.{marked}
 use Rattle.strand_run.proofs.telling.summary.Goals as goal
 

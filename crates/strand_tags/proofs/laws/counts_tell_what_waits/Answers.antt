@@ -1,6 +1,6 @@
 -- The laws are lemmas.
-use Rattle.strand_tags.proofs.Longer.{access_noted, noted_before, other_unnoted, prefix_kept}
-use Rattle.strand_tags.proofs.Waiting.{wait_by_counts, waits_alike}
+use Rattle.strand_tags.proofs.LongerTrace.{access_noted, noted_before, other_unnoted, prefix_kept}
+use Rattle.strand_tags.proofs.Waits.{wait_by_counts, waits_alike}
 use Rattle.strand_tags.proofs.laws.counts_tell_what_waits.Goals as goal
 
 pub returns-clause-waits : goal.returns-clause-waits

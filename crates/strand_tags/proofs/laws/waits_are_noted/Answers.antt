@@ -1,5 +1,5 @@
 -- The laws are lemmas.
-use Rattle.strand_tags.proofs.Handing.{conflicts_covered, keeps_own, keeps_other}
+use Rattle.strand_tags.proofs.ConflictWaits.{conflicts_covered, keeps_own, keeps_other}
 use Rattle.strand_tags.proofs.Vectors.{each_is}
 use Rattle.strand_tags.proofs.laws.waits_are_noted.Goals as goal
 

@@ -7,7 +7,7 @@ use Rattle.strand_app.specs.Generated.{generated}
 use Rattle.strand_app.specs.Opening.{all_inputs}
 use Rattle.strand_app.specs.Reads.{decided}
 use Rattle.strand_app.proofs.Comes.{still_comes}
-use Rattle.strand_app.proofs.Generated.{given_fails, none_opened}
+use Rattle.strand_app.proofs.GenCommands.{given_fails, none_opened}
 use Rattle.strand_app.proofs.commands.gen_image.image_generated.Goals as goal
 
 pub returns-in-Ok : goal.returns-in-Ok

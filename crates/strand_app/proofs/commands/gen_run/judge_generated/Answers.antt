@@ -2,12 +2,12 @@ use Rattle.std.proofs.Common.{ℕ, [], subst}
 use Rattle.std.specs.Prelude.{Ok, Err}
 use Rattle.strand_report.specs.Summary.{gen_line}
 use Rattle.strand_run.specs.Inputs.{Inputs}
-use Rattle.strand_run.proofs.Ended.{untouched}
+use Rattle.strand_run.proofs.RunImage.{untouched}
 use Rattle.strand_app.specs.Commands.Gen.{PutsGen, RefutesHeld, gen_reads, gen_rule}
 use Rattle.strand_app.specs.Generated.{IsGiven}
 use Rattle.strand_app.specs.Opening.{inputs_of}
 use Rattle.strand_app.proofs.Comes.{stepping_comes}
-use Rattle.strand_app.proofs.Generated.{given_fails, none_opened}
+use Rattle.strand_app.proofs.GenCommands.{given_fails, none_opened}
 use Rattle.strand_modules.specs.Seen.{bank_seen}
 use Rattle.strand_app.proofs.commands.gen_run.judge_generated.Goals as goal
 

@@ -11,7 +11,7 @@ use Rattle.strand_app.specs.Judging.{question_of}
 use Rattle.strand_app.specs.Opening.{OpensTo, all_inputs, inputs_of, names_of}
 use Rattle.strand_app.specs.RunFiles.{run_files}
 use Rattle.strand_app.proofs.JudgeReads.{contents, first, wants_crash, refuses_crash, opens_question}
-use Rattle.strand_app.proofs.Opened.{fails_all, fails_next}
+use Rattle.strand_app.proofs.OpensTo.{fails_all, fails_next}
 use Rattle.strand_app.proofs.commands.judge.open_question.Goals as goal
 
 pub returns-in_err-all-clause-opens : goal.returns-in_err-all-clause-opens
@@ -51,7 +51,7 @@ returns-in_err-setup-clause-opens g c =
     let read = c.in_ok-crash.ensures.says in
     subst (λ (r : Result CodeQuestion OpenFault). OpensTo (names ++ c.args.crash.now ∷ []) (judge_reads c.args.size c.args.words.stop) question_of before after r) (sym (e.1 ∙ ap Err e.2))
     (opens_question names c.args.crash.now refl before between c.args.size c.args.words.stop u opened after read.0 c.in_ok-crash.crash read.1.content read.1.gives read.1.is refl
-    (Err c.in_err-setup.field-0.0) c.in_err-setup.ensures.settled)
+    (Err c.in_err-setup.field-0.0) c.in_err-setup.ensures.cut_off)
 
 pub returns-clause-opens : goal.returns-clause-opens
 returns-clause-opens g c =
@@ -63,7 +63,7 @@ returns-clause-opens g c =
     let opened = c.in_ok-all.ensures.opens in
     let read = c.in_ok-crash.ensures.says in
     opens_question names c.args.crash.now refl before between c.args.size c.args.words.stop u opened after read.0 c.in_ok-crash.crash read.1.content read.1.gives read.1.is refl
-    (Ok (inputs_of c.in_ok-setup.setup)) c.in_ok-setup.ensures.settled
+    (Ok (inputs_of c.in_ok-setup.setup)) c.in_ok-setup.ensures.cut_off
 
 pub returns-clause-ready : goal.returns-clause-ready
 returns-clause-ready g c = record { ready = c.in_ok-setup.ensures.ready; crash = c.in_ok-crash.ensures.long ∙ ap (λ (f : RunFiles). length f.image.persistent) (sym c.in_ok-setup.ensures.same) }

@@ -1,7 +1,7 @@
 use Rattle.std.proofs.Common.{refl, subst}
 use Rattle.strand_app.specs.Opening.{inputs_of}
 use Rattle.strand_app.specs.Running.{RunsOnBank}
-use Rattle.strand_app.proofs.Ran.{verdict_on_bank}
+use Rattle.strand_app.proofs.RunsOnBank.{verdict_on_bank}
 use Rattle.strand_modules.specs.Seen.{bank_seen}
 use Rattle.strand_app.proofs.commands.judge.verdict_on_bank.Goals as goal
 

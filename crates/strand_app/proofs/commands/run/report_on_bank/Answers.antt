@@ -1,6 +1,6 @@
 use Rattle.strand_app.specs.Commands.Run.{PutsReport}
 use Rattle.strand_app.specs.Opening.{inputs_of}
-use Rattle.strand_app.proofs.Ran.{stops_on_bank}
+use Rattle.strand_app.proofs.RunsOnBank.{stops_on_bank}
 use Rattle.strand_modules.specs.Seen.{bank_seen}
 use Rattle.strand_app.proofs.commands.run.report_on_bank.Goals as goal
 

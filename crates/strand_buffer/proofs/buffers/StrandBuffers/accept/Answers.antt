@@ -4,7 +4,7 @@ use Rattle.std.proofs.lemmas.List.{length-map}
 use Rattle.std.proofs.lemmas.Nat.{mod_below}
 use Rattle.strand_buffer.specs.Buffers.{Buffers, accepted, current}
 use Rattle.strand_buffer.specs.KeptBuffers.{seen, entries_of}
-use Rattle.strand_buffer.proofs.Rings.{accepted_as}
+use Rattle.strand_buffer.proofs.OneRing.{accepted_as}
 use Rattle.strand_buffer.proofs.buffers.StrandBuffers.accept.Goals as goal
 
 pub returns : goal.returns

@@ -3,8 +3,8 @@ use Rattle.std.specs.Prelude.{IfSome}
 use Rattle.strand_buffer.specs.declared.entry.Entry.{Entry}
 use Rattle.strand_buffer.specs.declared.entry.Slot.{Slot}
 use Rattle.strand_buffer.specs.Buffers.{Buffers, IsEligible, found_slot, list_in}
-use Rattle.strand_buffer.proofs.Finding.{found_eligible}
-use Rattle.strand_buffer.proofs.Rings.{ring_list, ring_there}
+use Rattle.strand_buffer.proofs.Eligible.{found_eligible}
+use Rattle.strand_buffer.proofs.OneRing.{ring_list, ring_there}
 use Rattle.strand_buffer.proofs.buffers.StrandBuffers.eligible.Goals as goal
 
 pub returns-clause-eligible : goal.returns-clause-eligible

@@ -1,7 +1,7 @@
 use Rattle.std.proofs.Common.{◌≡◌, ◌∙◌, ap, arith, map, replicate, None}
 use Rattle.strand_buffer.specs.Buffers.{Buffers}
 use Rattle.strand_buffer.specs.KeptBuffers.{empty_ring, entries_of}
-use Rattle.strand_buffer.proofs.Rings.{empty_lists, with_lists}
+use Rattle.strand_buffer.proofs.OneRing.{empty_lists, with_lists}
 use Rattle.strand_buffer.proofs.buffers.StrandBuffers.new.Goals as goal
 
 pub returns : goal.returns

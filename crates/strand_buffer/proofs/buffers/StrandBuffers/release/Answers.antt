@@ -4,8 +4,8 @@ use Rattle.strand_buffer.specs.declared.entry.Stage.TheVariants.{Released}
 use Rattle.strand_buffer.specs.Entries.{trimmed}
 use Rattle.strand_buffer.specs.Buffers.{Buffers, with_stage, released}
 use Rattle.strand_buffer.specs.KeptBuffers.{seen, entries_of}
-use Rattle.strand_buffer.proofs.Handed.{sent_there}
-use Rattle.strand_buffer.proofs.Rings.{changed_kept, changed_list, old_list, ring_there, upto_staged, upto_trimmed, with_lists}
+use Rattle.strand_buffer.proofs.Sends.{sent_there}
+use Rattle.strand_buffer.proofs.OneRing.{changed_kept, changed_list, old_list, ring_there, upto_staged, upto_trimmed, with_lists}
 use Rattle.strand_buffer.proofs.buffers.StrandBuffers.release.Goals as goal
 
 pub invariant_of-self : goal.invariant_of-self

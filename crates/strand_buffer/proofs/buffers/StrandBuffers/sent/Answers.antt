@@ -3,8 +3,8 @@ use Rattle.std.specs.Prelude.{slice_set}
 use Rattle.strand_buffer.specs.declared.entry.Stage.TheVariants.{Sent}
 use Rattle.strand_buffer.specs.Buffers.{Buffers, IsSent, with_stage, sent}
 use Rattle.strand_buffer.specs.KeptBuffers.{seen, entries_of}
-use Rattle.strand_buffer.proofs.Handed.{eligible_there, sent_is}
-use Rattle.strand_buffer.proofs.Rings.{changed_kept, changed_list, old_list, ring_there, upto_staged, with_lists}
+use Rattle.strand_buffer.proofs.Sends.{eligible_there, sent_is}
+use Rattle.strand_buffer.proofs.OneRing.{changed_kept, changed_list, old_list, ring_there, upto_staged, with_lists}
 use Rattle.strand_buffer.proofs.buffers.StrandBuffers.sent.Goals as goal
 
 pub invariant_of-self : goal.invariant_of-self

@@ -3,7 +3,7 @@ use Rattle.strand_buffer.specs.declared.entry.Entry.{Entry}
 use Rattle.strand_buffer.specs.declared.entry.Stage.TheVariants.{Buffered}
 use Rattle.strand_buffer.specs.Links.{IsLink}
 use Rattle.strand_buffer.specs.Ring.{AreUpTo, KeptRing, RingSeen}
-use Rattle.strand_buffer.proofs.KeptRings.{kept_accepted}
+use Rattle.strand_buffer.proofs.RingInvariant.{kept_accepted}
 use Rattle.strand_buffer.proofs.ring.Ring.accept.Goals as goal
 
 pub invariant_of-self : goal.invariant_of-self

@@ -4,7 +4,7 @@ use Rattle.strand_buffer.specs.declared.entry.Stage.TheVariants.{Released}
 use Rattle.strand_buffer.specs.Entries.{trimmed}
 use Rattle.strand_buffer.specs.Buffers.{with_stage}
 use Rattle.strand_buffer.specs.Ring.{KeptRing}
-use Rattle.strand_buffer.proofs.KeptRings.{kept_released}
+use Rattle.strand_buffer.proofs.RingInvariant.{kept_released}
 use Rattle.strand_buffer.proofs.ring.Ring.release.Goals as goal
 
 pub invariant_of-self : goal.invariant_of-self

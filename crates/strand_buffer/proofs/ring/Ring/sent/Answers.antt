@@ -1,6 +1,6 @@
 use Rattle.std.proofs.Common.{arith, subst, sym}
 use Rattle.strand_buffer.specs.Ring.{KeptRing}
-use Rattle.strand_buffer.proofs.KeptRings.{kept_sent}
+use Rattle.strand_buffer.proofs.RingInvariant.{kept_sent}
 use Rattle.strand_buffer.proofs.ring.Ring.sent.Goals as goal
 
 pub invariant_of-self : goal.invariant_of-self

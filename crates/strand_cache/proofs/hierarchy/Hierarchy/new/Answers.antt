@@ -2,11 +2,11 @@
 use Rattle.std.proofs.Common.{◌≡◌, [], sym, ap, ◌∙◌, subst}
 use Rattle.std.specs.Prelude.{length, map, replicate}
 use Rattle.std.proofs.lemmas.List.{length-replicate}
-use Rattle.strand_cache.specs.Copies.{lines_of, row_of}
+use Rattle.strand_cache.specs.Copies.{row_lines, row_of}
 use Rattle.strand_cache.specs.Seen.{no_counts}
 use Rattle.strand_cache.specs.Whole.{IsWhole, flat_memory, group_of}
-use Rattle.strand_cache.proofs.Fresh.{fresh_whole, fresh_memory, fresh_lines, no_row}
-use Rattle.strand_cache.proofs.Standing.{lines_is}
+use Rattle.strand_cache.proofs.Memory.Empty.{fresh_whole, fresh_memory, fresh_lines, no_row}
+use Rattle.strand_cache.proofs.Lists.Access.{lines_is}
 use Rattle.strand_cache.proofs.hierarchy.Hierarchy.new.Goals as goal
 
 pub invariant_of-result : goal.invariant_of-result
@@ -23,10 +23,10 @@ returns-clause-empty c =
     let words = c.in_ok-backing.ensures in
     let memory : flat_memory c.args.sets c.in_ok-groups.groups.items c.in_ok-backing.backing ≡ record { volatile = c.args.volatile.now; persistent = c.args.persistent.now } =
     ap (λ g. flat_memory c.args.sets g c.in_ok-backing.backing) c.in_ok-groups.ensures ∙ fresh_memory c.args.cores c.args.sets c.in_ok-backing.backing c.apart.ensures ∙ (λ i. record { volatile = words.0 i; persistent = words.1 i }) in
-    let lines : map (map lines_of) c.in_ok-groups.groups.items ≡ replicate c.args.sets (replicate c.args.cores []) = ap (map (map lines_of)) c.in_ok-groups.ensures ∙ fresh_lines c.args.cores c.args.sets in
+    let lines : map (map row_lines) c.in_ok-groups.groups.items ≡ replicate c.args.sets (replicate c.args.cores []) = ap (map (map row_lines)) c.in_ok-groups.ensures ∙ fresh_lines c.args.cores c.args.sets in
     let none : c.in_ok-counts.counts.items ≡ replicate c.args.cores no_counts = counts.items_if_clones_equal (λ y e. e) in
     λ i. record { cores = c.args.cores; sets = c.args.sets; ways = c.args.ways; memory = memory i; counts = none i; lines = lines i }
 
 pub returns-clause-stands : goal.returns-clause-stands
 returns-clause-stands c core set within lt =
-    lines_is c.in_ok-groups.groups.items set core ∙ ap (λ g. lines_of (row_of (group_of g set) core)) c.in_ok-groups.ensures ∙ ap lines_of (no_row c.args.cores c.args.sets set core)
+    lines_is c.in_ok-groups.groups.items set core ∙ ap (λ g. row_lines (row_of (group_of g set) core)) c.in_ok-groups.ensures ∙ ap row_lines (no_row c.args.cores c.args.sets set core)

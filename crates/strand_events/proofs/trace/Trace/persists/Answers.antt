@@ -1,5 +1,5 @@
 use Rattle.std.proofs.Common.{arith, ap, length}
-use Rattle.strand_events.proofs.Kept.{persists_most}
+use Rattle.strand_events.proofs.TraceInvariant.{persists_most}
 use Rattle.strand_events.proofs.trace.Trace.persists.Goals as goal
 
 pub overflow_cast-result : goal.overflow_cast-result

@@ -2,7 +2,7 @@ use Rattle.std.proofs.Common.{◌≡◌, ◌∙◌, arith, sym, take, subst}
 use Rattle.std.specs.Prelude.{ℕ, List}
 use Rattle.std.proofs.lemmas.List.{take_all}
 use Rattle.strand_exec.specs.Decoded.{AreDecoded}
-use Rattle.strand_exec.proofs.Decoding.{decoded_none, decoded_more}
+use Rattle.strand_exec.proofs.CodeInvariant.{decoded_none, decoded_more}
 use Rattle.strand_exec.proofs.code.Code.new.Goals as goal
 
 pub loop-word-init : goal.loop-word-init

@@ -1,5 +1,5 @@
 use Rattle.std.proofs.Common.{refl, sym}
-use Rattle.strand_isa.proofs.Ranges.{valid_is}
+use Rattle.strand_isa.proofs.CheckValid.{valid_is}
 use Rattle.strand_isa.proofs.instr.Instr.check.Goals as goal
 
 pub returns-in-None-clause-valid : goal.returns-in-None-clause-valid

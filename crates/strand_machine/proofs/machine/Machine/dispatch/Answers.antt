@@ -5,12 +5,12 @@ use Rattle.strand_rules.specs.Cycle.{IsReached, front, item_after, turn}
 use Rattle.strand_rules.specs.Machine.{FrontIs, made_to}
 use Rattle.strand_rules.specs.Pipeline.{with_memory}
 use Rattle.strand_rules.proofs.WithMemory.{front_without, item_after_with}
-use Rattle.strand_machine.specs.KeptMachine.{IsHeld, seen}
+use Rattle.strand_machine.specs.KeptMachine.{IsKeptRingMachine, seen}
 use Rattle.strand_machine.specs.Machine.{RingMachine}
 use Rattle.strand_machine.specs.Changed.{with_dispatched}
 use Rattle.strand_machine.specs.Stand.{PartsSeen}
-use Rattle.strand_machine.proofs.Fronts.{IsFirst, can_take, dispatch_reached, first_inside, has_wait, holds_inside, rooms_after, stand_after}
-use Rattle.strand_machine.proofs.Held.{held_moved}
+use Rattle.strand_machine.proofs.Turn.Item.{IsFirst, can_take, dispatch_reached, first_inside, has_wait, holds_inside, rooms_after, stand_after}
+use Rattle.strand_machine.proofs.Stand.Machine.{held_moved}
 use Rattle.strand_machine.proofs.machine.Machine.dispatch.Goals.{After-dispatch-2, After-keeps}
 use Rattle.strand_machine.proofs.machine.Machine.dispatch.Goals as goal
 
@@ -40,32 +40,31 @@ dispatch-requires-2-clause-take c = let at = (goal.at.dispatch-requires-2-clause
 pub dispatch-requires-2-clause-wait : goal.dispatch-requires-2-clause-wait
 dispatch-requires-2-clause-wait c = let at = (goal.at.dispatch-requires-2-clause-wait c).After-keeps in has_wait (seen c.self.inside) c.args.n c.args.item (first at)
 
+-- the machine is that of the rules after it
+moved : (c : After-dispatch-2) → with_memory c.dispatch-2.new.self.cache.memory c.dispatch.new.self
+    ≡ made_to (seen c.self.inside).machine (item_after (seen c.self.inside).machine.state c.args.n (front c.self.inside.pipeline.config (seen c.self.inside).machine.state c.args.n))
+moved c =
+    let r = seen c.self.inside in
+    let memory = c.self.inside.parts.cache.memory in
+    ap (λ (p : PartsSeen). with_memory p.cache.memory c.dispatch.new.self) c.dispatch-2.ensures ∙ ap (with_memory memory) c.dispatch.ensures
+    ∙ ap (made_to r.machine) (sym (item_after_with memory c.self.inside.pipeline.state c.args.n (front r.machine.config r.machine.state c.args.n)))
+
 -- what the fields keep
-held : (c : After-dispatch-2) → IsFirst (seen c.self.inside) c.args.n c.args.item
+stays_kept : (c : After-dispatch-2) → IsFirst (seen c.self.inside) c.args.n c.args.item
     → turn (seen c.self.inside).machine.config (seen c.self.inside).machine.program (seen c.self.inside).machine.state (Dispatch c.args.n) ≡ Done
-    → IsHeld (record { pipeline = c.dispatch.new.self; parts = c.dispatch-2.new.self })
-held c is_first is_done =
+    → IsKeptRingMachine (record { pipeline = c.dispatch.new.self; parts = c.dispatch-2.new.self })
+stays_kept c is_first is_done =
     let r = seen c.self.inside in
     let n = c.args.n in
-    let memory = c.self.inside.parts.cache.memory in
-    let o = front r.machine.config r.machine.state n in
-    let is = ap (λ (p : PartsSeen). with_memory p.cache.memory c.dispatch.new.self) c.dispatch-2.ensures ∙ ap (with_memory memory) c.dispatch.ensures
-    ∙ ap (made_to r.machine) (sym (item_after_with memory c.self.inside.pipeline.state n o)) in
-    held_moved r (item_after r.machine.state n o) c.dispatch.new.self c.dispatch-2.new.self (with_dispatched r.parts n c.args.item) is c.dispatch-2.ensures
+    held_moved r (item_after r.machine.state n (front r.machine.config r.machine.state n)) c.dispatch.new.self c.dispatch-2.new.self (with_dispatched r.parts n c.args.item) (moved c) c.dispatch-2.ensures
     (stand_after r n c.args.item is_first) (rooms_after r n c.args.item is_first) is_first.holds.wait_room (dispatch_reached r n c.args.item is_first is_done) is_first.holds.extents
 
 pub returns-clause-machine : goal.returns-clause-machine
 returns-clause-machine c =
-    let r = seen c.self.inside in
-    let n = c.args.n in
-    let memory = c.self.inside.parts.cache.memory in
-    let o = front r.machine.config r.machine.state n in
-    ap (λ (p : PartsSeen). with_memory p.cache.memory c.dispatch.new.self) c.dispatch-2.ensures ∙ ap (with_memory memory) c.dispatch.ensures
-    ∙ ap (made_to r.machine) (sym (item_after_with memory c.self.inside.pipeline.state n o))
-    ∙ ap (λ (r : RingMachine). made_to r.machine (item_after r.machine.state n (front r.machine.config r.machine.state n))) c.self.view_is
+    moved (goal.at.returns-clause-machine c).After-dispatch-2 ∙ ap (λ (r : RingMachine). made_to r.machine (item_after r.machine.state c.args.n (front r.machine.config r.machine.state c.args.n))) c.self.view_is
 
 pub returns-clause-parts : goal.returns-clause-parts
-returns-clause-parts c = let at = goal.at.returns-clause-parts c in (held at.After-dispatch-2 (first at.After-keeps) (done at.After-keeps)).stand
+returns-clause-parts c = let at = goal.at.returns-clause-parts c in (stays_kept at.After-dispatch-2 (first at.After-keeps) (done at.After-keeps)).stand
 
 pub invariant_of-self : goal.invariant_of-self
-invariant_of-self c = let at = goal.at.invariant_of-self c in held at.After-dispatch-2 (first at.After-keeps) (done at.After-keeps)
+invariant_of-self c = let at = goal.at.invariant_of-self c in stays_kept at.After-dispatch-2 (first at.After-keeps) (done at.After-keeps)

@@ -1,40 +1,29 @@
-use Rattle.std.proofs.Common.{◌∙◌, sym, ap}
+use Rattle.std.proofs.Common.{◌≡◌, ◌∙◌, sym, ap}
 use Rattle.std.specs.Prelude.{if◌then◌else◌}
 use Rattle.strand_inputs.specs.declared.step.Step.TheVariants.{Dispatch}
 use Rattle.strand_rules.specs.declared.turn.Cause.TheVariants as causes
 use Rattle.strand_rules.specs.declared.turn.Turn.TheVariants.{Bubble, Done}
 use Rattle.strand_rules.specs.Cycle.{turn}
-use Rattle.strand_buffer.specs.Buffers.{has_room, can_begin}
-use Rattle.strand_machine.specs.KeptMachine.{seen}
-use Rattle.strand_machine.specs.Machine.{RingMachine}
-use Rattle.strand_machine.specs.Stand.{buffers_at}
-use Rattle.strand_machine.proofs.Fronts.{decided, first_inside, holds_inside, turn_decided}
+use Rattle.strand_buffer.specs.Buffers.{Buffers}
+use Rattle.strand_machine.proofs.Turn.Item.{decided, turn_decided}
+use Rattle.strand_machine.proofs.machine.Machine.item_turn.Goals.{After-buffers-buffers}
 use Rattle.strand_machine.proofs.machine.Machine.item_turn.Goals as goal
+
+-- the turn is what the core's buffers decide of the item
+turned : (c : After-buffers-buffers) → decided c.buffers-buffers.result.now c.args.item ≡ turn c.args.self.now.machine.config c.args.self.now.machine.program c.args.self.now.machine.state (Dispatch c.args.n)
+turned c =
+    ap (λ (bs : Buffers). decided bs c.args.item) c.buffers-buffers.ensures.part
+    ∙ sym (turn_decided c.args.self.now c.args.n c.args.item (record { holds = c.keeps.ensures.holds; core = c.requires.core; front = c.requires.front }))
 
 pub returns-in-Persist : goal.returns-in-Persist
 returns-in-Persist c =
-    let r = seen c.self.inside in
-    let first = first_inside (seen c.self.inside) c.args.self.now c.args.n c.args.item c.self.view_is (holds_inside c.self.inside c.self.invariant c.keeps.ensures.kept c.keeps.ensures.buffers) c.requires.core c.requires.front in
-    c.done_or.ensures
-    ∙ ap (λ b. if b then Done else Bubble causes.NoRoom) (c.room.ensures ∙ ap has_room c.buffers-buffers.ensures)
-    ∙ sym (ap (decided (buffers_at r.parts c.args.n)) c.in-Persist.is)
-    ∙ sym (turn_decided r c.args.n c.args.item first)
-    ∙ ap (λ (r : RingMachine). turn r.machine.config r.machine.program r.machine.state (Dispatch c.args.n)) c.self.view_is
+    c.done_or.ensures ∙ ap (λ b. if b then Done else Bubble causes.NoRoom) c.room.ensures
+    ∙ sym (ap (decided c.buffers-buffers.result.now) c.in-Persist.is) ∙ turned (goal.at.returns-in-Persist c).After-buffers-buffers
 
 pub returns-in-Barrier : goal.returns-in-Barrier
-returns-in-Barrier c =
-    let r = seen c.self.inside in
-    let first = first_inside (seen c.self.inside) c.args.self.now c.args.n c.args.item c.self.view_is (holds_inside c.self.inside c.self.invariant c.keeps.ensures.kept c.keeps.ensures.buffers) c.requires.core c.requires.front in
-    sym (ap (decided (buffers_at r.parts c.args.n)) c.in-Barrier.is)
-    ∙ sym (turn_decided r c.args.n c.args.item first)
-    ∙ ap (λ (r : RingMachine). turn r.machine.config r.machine.program r.machine.state (Dispatch c.args.n)) c.self.view_is
+returns-in-Barrier c = sym (ap (decided c.buffers-buffers.result.now) c.in-Barrier.is) ∙ turned (goal.at.returns-in-Barrier c).After-buffers-buffers
 
 pub returns-in-NewStrand : goal.returns-in-NewStrand
 returns-in-NewStrand c =
-    let r = seen c.self.inside in
-    let first = first_inside (seen c.self.inside) c.args.self.now c.args.n c.args.item c.self.view_is (holds_inside c.self.inside c.self.invariant c.keeps.ensures.kept c.keeps.ensures.buffers) c.requires.core c.requires.front in
-    c.done_or-in-NewStrand.ensures
-    ∙ ap (λ b. if b then Done else Bubble causes.NotEmpty) (c.can_begin.ensures ∙ ap can_begin c.buffers-buffers.ensures)
-    ∙ sym (ap (decided (buffers_at r.parts c.args.n)) c.in-NewStrand.is)
-    ∙ sym (turn_decided r c.args.n c.args.item first)
-    ∙ ap (λ (r : RingMachine). turn r.machine.config r.machine.program r.machine.state (Dispatch c.args.n)) c.self.view_is
+    c.done_or-in-NewStrand.ensures ∙ ap (λ b. if b then Done else Bubble causes.NotEmpty) c.can_begin.ensures
+    ∙ sym (ap (decided c.buffers-buffers.result.now) c.in-NewStrand.is) ∙ turned (goal.at.returns-in-NewStrand c).After-buffers-buffers

@@ -2,7 +2,7 @@ use Rattle.std.proofs.Common.{◌<◌, ◌∙◌, sym, ap, length, arith}
 use Rattle.std.specs.Prelude.{nat_lt, slice_index}
 use Rattle.std.proofs.lemmas.Bool.{lt-ltb}
 use Rattle.std.proofs.lemmas.List.{get_or_default}
-use Rattle.strand_base.proofs.Counting.{any_from}
+use Rattle.strand_base.proofs.BelowBound.{any_from}
 use Rattle.strand_machine.specs.Stand.{PartsSeen, Tally, no_tally, tally_at}
 use Rattle.strand_machine.proofs.parts.Parts.some_missing.Goals as goal
 

@@ -1,5 +1,5 @@
 use Rattle.std.proofs.Common.{arith}
-use Rattle.strand_modules.proofs.Filled.{filled_none, filled_more, filled_until, filled_all}
+use Rattle.strand_modules.proofs.Fills.{filled_none, filled_more, filled_until, filled_all}
 use Rattle.strand_modules.proofs.bank.ModuleBank.fill.Goals as goal
 
 pub loop-i-init : goal.loop-i-init

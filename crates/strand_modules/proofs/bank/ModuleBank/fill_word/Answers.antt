@@ -1,7 +1,7 @@
-use Rattle.std.proofs.Common.{arith, sym, ◌∙◌, ◌≡◌, ◌<◌, length, map}
+use Rattle.std.proofs.Common.{arith, sym, ◌∙◌, ◌≡◌, ◌<◌}
 use Rattle.std.proofs.lemmas.List.{length-map}
 use Rattle.strand_modules.specs.Bank.{fill_refused}
-use Rattle.strand_modules.proofs.Accesses.{store_returns, store_refuses, place_below}
+use Rattle.strand_modules.proofs.LoadsAndStores.{store_returns, store_refuses, place_below}
 use Rattle.strand_modules.proofs.bank.ModuleBank.fill_word.Goals as goal
 
 pub store_in-requires-clause-at : goal.store_in-requires-clause-at

@@ -1,7 +1,7 @@
 use Rattle.std.proofs.Common.{◌≡◌, ◌∙◌, ap, arith}
 use Rattle.std.specs.Prelude.{Err}
 use Rattle.std.proofs.lemmas.Result.{err_from_is_err_and}
-use Rattle.strand_modules.proofs.Gathered.{gathered_none, none_first, gathered_more, more_first, gathered_until, gathered_no_memory, gathered_all}
+use Rattle.strand_modules.proofs.ReadsAll.{gathered_none, none_first, gathered_more, more_first, gathered_until, gathered_no_memory, gathered_all}
 use Rattle.strand_modules.proofs.bank.ModuleBank.read_all.Goals as goal
 
 pub loop-i-init : goal.loop-i-init

@@ -1,5 +1,5 @@
-use Rattle.std.proofs.Common.{◌≡◌, ◌∙◌, sym, arith}
-use Rattle.strand_modules.proofs.Replaced.{replace_ok, load_failed, store_failed}
+use Rattle.std.proofs.Common.{◌≡◌, ◌∙◌, arith}
+use Rattle.strand_modules.proofs.Replaces.{replace_ok, load_failed, store_failed}
 use Rattle.strand_modules.proofs.bank.ModuleBank.replace.Goals as goal
 
 pub returns-in-Ok-clause-ok : goal.returns-in-Ok-clause-ok

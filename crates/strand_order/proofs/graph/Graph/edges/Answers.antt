@@ -1,6 +1,6 @@
 use Rattle.std.proofs.Common.{length, ap, arith}
 use Rattle.strand_order.specs.GraphSeen.{GraphSeen}
-use Rattle.strand_order.proofs.FewEdges.{few_edges}
+use Rattle.strand_order.proofs.Edges.Few.{few_edges}
 use Rattle.strand_order.proofs.graph.Graph.edges.Goals as goal
 
 pub returns-clause-few : goal.returns-clause-few

@@ -4,7 +4,7 @@ use Rattle.strand_rules.specs.Cycle.{durable_set}
 use Rattle.strand_rules.specs.Machine.{Machine}
 use Rattle.strand_rules.specs.Kept.{seen}
 use Rattle.strand_rules.specs.Pipeline.{state_with}
-use Rattle.strand_rules.proofs.Reached.{reached_closed, reached_joined}
+use Rattle.strand_rules.proofs.IsReached.{reached_closed, reached_joined}
 use Rattle.strand_rules.proofs.pipeline.Pipeline.durable.Goals as goal
 
 pub returns-clause-closed : goal.returns-clause-closed

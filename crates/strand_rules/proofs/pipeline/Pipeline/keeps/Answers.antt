@@ -1,5 +1,5 @@
 use Rattle.std.proofs.Common.{subst}
-use Rattle.strand_rules.specs.Kept.{IsKept}
+use Rattle.strand_rules.specs.Kept.{IsKeptMachine}
 use Rattle.strand_rules.specs.Machine.{Machine}
 use Rattle.strand_rules.specs.Pipeline.{IsReachedWithSome}
 use Rattle.strand_rules.proofs.pipeline.Pipeline.keeps.Goals as goal
@@ -8,4 +8,4 @@ pub returns-clause-reached : goal.returns-clause-reached
 returns-clause-reached c = subst (λ (m : Machine). IsReachedWithSome m.config m.program m.state) c.self.view_is c.self.invariant.reached
 
 pub returns-clause-kept : goal.returns-clause-kept
-returns-clause-kept c = subst IsKept c.self.view_is c.self.invariant.kept
+returns-clause-kept c = subst IsKeptMachine c.self.view_is c.self.invariant.kept

@@ -2,11 +2,11 @@ use Rattle.std.proofs.Common.{◌≡◌, length, map, arith, sym, ap, refl, ◌�
 use Rattle.std.specs.Prelude.{replicate}
 use Rattle.std.proofs.lemmas.List.{length-map, length-replicate}
 use Rattle.strand_exec.specs.Core.{fresh}
-use Rattle.strand_events.specs.Order.{held}
+use Rattle.strand_events.specs.Order.{set_of}
 use Rattle.strand_events.specs.Trace.{persists_of}
 use Rattle.strand_rules.specs.Pipeline.{no_memory}
-use Rattle.strand_rules.proofs.Keeping.{IsStart, kept_start}
-use Rattle.strand_rules.proofs.Reached.{machine_reached}
+use Rattle.strand_rules.proofs.MachineInvariant.{IsStart, kept_start}
+use Rattle.strand_rules.proofs.IsReached.{machine_reached}
 use Rattle.strand_rules.proofs.pipeline.Pipeline.new.Goals as goal
 
 pub invariant_of-result : goal.invariant_of-result
@@ -28,7 +28,7 @@ invariant_of-result c =
     record {
       kept = kept_start _ start;
       reached = (no_memory, machine_reached _ start zeros);
-      persisted = c.in_ok-with_capacity-5.ensures.items ∙ sym (ap (λ t. map (held c.in_ok-with_capacity-4.field-0.items) (persists_of t)) c.in_ok-new-2.ensures.empty);
+      persisted = c.in_ok-with_capacity-5.ensures.items ∙ sym (ap (λ t. map (set_of c.in_ok-with_capacity-4.field-0.items) (persists_of t)) c.in_ok-new-2.ensures.empty);
       room = c.in_ok-new-2.ensures.room;
       retired_room = c.in_ok-with_capacity.ensures.capacity;
       buffered_room = c.in_ok-with_capacity-2.ensures.capacity;

@@ -1,7 +1,7 @@
 use Rattle.std.proofs.Common.{ap, arith, length}
 use Rattle.strand_events.specs.Trace.{event_is, is_persist}
-use Rattle.strand_events.proofs.Kept.{count_most}
-use Rattle.strand_events.proofs.Within.{event_within}
+use Rattle.strand_events.proofs.TraceInvariant.{count_most}
+use Rattle.strand_events.proofs.EventWithin.{event_within}
 use Rattle.strand_rules.specs.Machine.{Machine}
 use Rattle.strand_rules.proofs.pipeline.Pipeline.persist_number.Goals as goal
 

@@ -1,31 +1,32 @@
-use Rattle.std.proofs.Common.{◌≡◌, ◌<◌, ◌∙◌, arith, length, true, sym, ap, subst}
+use Rattle.std.proofs.Common.{◌≡◌, ◌<◌, ◌∙◌, arith, length, true, sym, ap}
 use Rattle.std.specs.Prelude.{Some, slice_get, slice_set}
 use Rattle.std.proofs.lemmas.List.{length-map}
 use Rattle.std.proofs.lemmas.Option.{slice_get_within}
 use Rattle.strand_base.specs.Counting.{count_below}
-use Rattle.strand_base.proofs.Counting.{count_strict, list_length}
-use Rattle.strand_events.specs.Order.{held}
+use Rattle.strand_base.proofs.BelowBound.{count_strict, list_length}
+use Rattle.strand_events.specs.Order.{set_of}
 use Rattle.strand_events.specs.Trace.{event_is, is_persist, persists_of}
 use Rattle.strand_rules.specs.Cycle.{write_after}
 use Rattle.strand_rules.specs.Machine.{Machine}
-use Rattle.strand_rules.specs.Pipeline.{IsReachedWithSome}
 use Rattle.strand_rules.specs.Kept.{seen}
-use Rattle.strand_rules.proofs.Marked.{marks_set}
-use Rattle.strand_rules.proofs.Keeping.{kept_write, within}
+use Rattle.strand_rules.proofs.Marks.{marks_set}
+use Rattle.strand_rules.proofs.MachineInvariant.{kept_write}
+use Rattle.strand_events.proofs.EventWithin.{event_within}
+use Rattle.strand_rules.proofs.Fields.{room_seen, request_seen, persist_seen, reached_seen}
 use Rattle.strand_rules.proofs.pipeline.Pipeline.write.Goals as goal
 
 pub index_mut-requires-2 : goal.index_mut-requires-2
 index_mut-requires-2 c =
     let m = seen c.self.inside in
     let t = m.state.now.trace in
-    let is : event_is is_persist t c.args.p ≡ true = subst (λ (m : Machine). event_is is_persist m.state.now.trace c.args.p ≡ true) (sym c.self.view_is) c.requires.persist in
+    let is : event_is is_persist t c.args.p ≡ true = persist_seen m _ c.self.view_is c.args.p c.requires.persist in
     let number = c.requires.number ∙ ap (λ (m : Machine). count_below c.args.p (event_is is_persist m.state.now.trace)) (sym c.self.view_is) in
     omega (
       arith,
       number,
-      count_strict c.args.p c.args.p (length t) (event_is is_persist t) (omega arith) (within is_persist t c.args.p is) is,
+      count_strict c.args.p c.args.p (length t) (event_is is_persist t) (omega arith) (event_within is_persist t c.args.p is) is,
       list_length (length t) (event_is is_persist t),
-      length-map (persists_of t) (held m.state.durable),
+      length-map (persists_of t) (set_of m.state.durable),
       ap length c.self.invariant.persisted,
       c.self.inside.persisted.ok.0,
     )
@@ -35,15 +36,15 @@ invariant_of-self c =
     let m = seen c.self.inside in
     let t = m.state.now.trace in
     let held_all = c.self.invariant in
-    let is : event_is is_persist t c.args.p ≡ true = subst (λ (m : Machine). event_is is_persist m.state.now.trace c.args.p ≡ true) (sym c.self.view_is) c.requires.persist in
-    let there : slice_get m.state.flight c.args.j ≡ Some c.args.p = subst (λ (m : Machine). slice_get m.state.flight c.args.j ≡ Some c.args.p) (sym c.self.view_is) c.requires.request in
-    let room : m.made < m.steps = omega (arith, c.requires.room, ap (λ (m : Machine). m.made) c.self.view_is, ap (λ (m : Machine). m.steps) c.self.view_is) in
+    let is : event_is is_persist t c.args.p ≡ true = persist_seen m _ c.self.view_is c.args.p c.requires.persist in
+    let there : slice_get m.state.flight c.args.j ≡ Some c.args.p = request_seen m _ c.self.view_is c.args.j c.args.p c.requires.request in
+    let room : m.made < m.steps = room_seen m _ c.self.view_is c.requires.room in
     let number = c.requires.number ∙ ap (λ (m : Machine). count_below c.args.p (event_is is_persist m.state.now.trace)) (sym c.self.view_is) in
-    let inside = within is_persist t c.args.p is in
+    let inside = event_within is_persist t c.args.p is in
     let marked = marks_set (length t) (event_is is_persist t) m.state.durable c.args.p true inside is (omega (arith, inside, held_all.kept.durable)) in
     record {
       kept = rw (c.remove.ensures.items) (kept_write m c.args.j c.args.p held_all.kept room (slice_get_within m.state.flight c.args.j c.args.p there));
-      reached = rw (c.remove.ensures.items) (subst (λ (n : Machine). IsReachedWithSome n.config n.program (write_after n.state c.args.j (Some c.args.p))) (sym c.self.view_is) c.requires.reached);
+      reached = rw (c.remove.ensures.items) (reached_seen m _ c.self.view_is (λ m. write_after m.state c.args.j (Some c.args.p)) c.requires.reached);
       persisted = ap (λ k. slice_set c.self.inside.persisted.items k true) number ∙ ap (λ marks. slice_set marks (count_below c.args.p (event_is is_persist t)) true) held_all.persisted ∙ sym marked;
       room = held_all.room;
       retired_room = held_all.retired_room;

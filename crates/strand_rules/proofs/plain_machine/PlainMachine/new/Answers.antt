@@ -5,8 +5,8 @@ use Rattle.strand_rules.specs.Cycle.{IsReached}
 use Rattle.strand_rules.specs.Machine.{Machine, program_of}
 use Rattle.strand_rules.specs.Next.{AreKeptWaits}
 use Rattle.strand_rules.specs.Pipeline.{state_with}
-use Rattle.strand_rules.proofs.Reached.{start_reached}
-use Rattle.strand_rules.proofs.Waited.{none_kept}
+use Rattle.strand_rules.proofs.IsReached.{start_reached}
+use Rattle.strand_rules.proofs.KeptWaits.{none_kept}
 use Rattle.strand_rules.proofs.plain_machine.PlainMachine.new.Goals as goal
 
 pub invariant_of-result : goal.invariant_of-result

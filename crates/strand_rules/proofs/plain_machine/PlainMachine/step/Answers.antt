@@ -2,11 +2,11 @@ use Rattle.std.proofs.Common.{refl, sym, subst}
 use Rattle.strand_inputs.specs.declared.step.Step.TheVariants.{Dispatch, Send, Write}
 use Rattle.strand_modules.specs.Seen.{bank_seen}
 use Rattle.strand_rules.specs.Cycle.{IsReached}
-use Rattle.strand_rules.specs.Machine.{Machine, StandsOn, Steps}
+use Rattle.strand_rules.specs.Machine.{Machine, StandsOn, StepLeaves}
 use Rattle.strand_rules.specs.Pipeline.{with_memory}
 use Rattle.strand_rules.proofs.PlainSteps.{dispatch_steps, send_steps, stepped_held, steps_held}
 use Rattle.strand_rules.proofs.Setup.{core_setup}
-use Rattle.strand_rules.proofs.Reached.{core_stands, reached_stands}
+use Rattle.strand_rules.proofs.IsReached.{core_stands, reached_stands}
 use Rattle.strand_rules.proofs.WithMemory.{steps_with}
 use Rattle.strand_rules.proofs.plain_machine.PlainMachine.step.Goals as goal
 
@@ -33,7 +33,7 @@ returns-in-Dispatch-clause-step g c =
     let m = c.self.inside in
     let new = c.step_dispatch.new.self in
     let bank = bank_seen (λ z. (goal.PmModule-dyn g z).holds z.1) c.args.bank.now in
-    subst (λ step. Steps c.args.self.now (with_memory m.memory new) bank bank step c.step_dispatch.result) (sym c.in-Dispatch.is)
+    subst (λ step. StepLeaves c.args.self.now (with_memory m.memory new) bank bank step c.step_dispatch.result) (sym c.in-Dispatch.is)
     (steps_with m.memory m.pipeline new c.args.self.now bank bank (Dispatch c.in-Dispatch.n) c.step_dispatch.result tt c.self.view_is
     (dispatch_steps m.pipeline new bank c.in-Dispatch.n c.step_dispatch.result c.step_dispatch.ensures.turn c.step_dispatch.ensures.machine))
 
@@ -42,7 +42,7 @@ returns-in-Send-clause-step g c =
     let m = c.self.inside in
     let new = c.step_send.new.self in
     let bank = bank_seen (λ z. (goal.PmModule-dyn g z).holds z.1) c.args.bank.now in
-    subst (λ step. Steps c.args.self.now (with_memory m.memory new) bank bank step c.step_send.result) (sym c.in-Send.is)
+    subst (λ step. StepLeaves c.args.self.now (with_memory m.memory new) bank bank step c.step_send.result) (sym c.in-Send.is)
     (steps_with m.memory m.pipeline new c.args.self.now bank bank (Send c.in-Send.n c.in-Send.b c.in-Send.j) c.step_send.result tt c.self.view_is
     (send_steps m.pipeline new bank c.in-Send.n c.in-Send.b c.in-Send.j c.step_send.result c.step_send.ensures.turn c.step_send.ensures.machine))
 
@@ -52,7 +52,7 @@ returns-in-Write-clause-step g c =
     let new = c.step_write.new.self in
     let bank = bank_seen (λ z. (goal.PmModule-dyn g z).holds z.1) c.args.bank.now in
     let bank' = bank_seen (λ z. (goal.PmModule-dyn g z).holds z.1) c.step_write.new.bank in
-    subst (λ step. Steps c.args.self.now (with_memory m.memory new) bank bank' step c.step_write.result) (sym c.in-Write.is)
+    subst (λ step. StepLeaves c.args.self.now (with_memory m.memory new) bank bank' step c.step_write.result) (sym c.in-Write.is)
     (steps_with m.memory m.pipeline new c.args.self.now bank bank' (Write c.in-Write.j) c.step_write.result tt c.self.view_is c.step_write.ensures)
 
 pub returns-in-Write-clause-stands : goal.returns-in-Write-clause-stands

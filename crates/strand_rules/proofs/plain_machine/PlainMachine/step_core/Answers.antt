@@ -3,7 +3,7 @@ use Rattle.std.specs.Prelude.{Some}
 use Rattle.strand_rules.specs.Visible.{next_plan}
 use Rattle.strand_rules.specs.Cycle.{IsReached, made_turn}
 use Rattle.strand_rules.specs.Machine.{Machine}
-use Rattle.strand_rules.proofs.Reached.{core_reached}
+use Rattle.strand_rules.proofs.IsReached.{core_reached}
 use Rattle.strand_rules.proofs.WithMemory.{made_turn_with}
 use Rattle.strand_rules.proofs.plain_machine.PlainMachine.step_core.Goals as goal
 
@@ -16,6 +16,7 @@ retire-requires-clause-reached c =
     ap Some c.asked-plan.ensures.asks ∙ c.in-Some.ensures.plan ∙ ap (λ (m : Machine). next_plan m.program m.state.now c.args.n) c.self.view_is in
     let turned : c.made_turn-turn.result ≡ made_turn m.config m.state c.args.n event =
     c.made_turn-turn.ensures
+    ∙ ap (λ (m : Machine). made_turn m.config m.state c.args.n event) c.new.ensures
     ∙ sym (made_turn_with c.self.inside.memory c.self.inside.pipeline.config c.self.inside.pipeline.state c.args.n event)
     ∙ ap (λ (m : Machine). made_turn m.config m.state c.args.n event) c.self.view_is in
     core_reached m c.args.n c.asked-plan.result event reached next c.next_event-event.ensures.event (sym turned ∙ c.in-Done.is)

@@ -2,7 +2,7 @@ use Rattle.std.proofs.Common.{refl, sym, subst, rules}
 use Rattle.strand_tags.specs.TagsSeen.{TagsSeen, StandFor}
 use Rattle.strand_tags.specs.Access.{access, noted_as}
 use Rattle.strand_tags.specs.Kept.{seen}
-use Rattle.strand_tags.proofs.Noting.{kept_as, stand_as}
+use Rattle.strand_tags.proofs.StandFor.{kept_as, stand_as}
 use Rattle.strand_tags.proofs.tags.Tags.note.Goals as goal
 
 pub invariant_of-self : goal.invariant_of-self

@@ -1,0 +1,37 @@
+// The limits of images, machines and schedules (docs/FORMATS.md), which code, definitions and clauses cite.
+
+/// The most cores that an image has.
+pub const MOST_CORES: u32 = 4;
+
+/// The most code words that an image has.
+pub const MOST_CODE: u32 = 65_536;
+
+/// The most words that an image has in each region of data.
+pub const MOST_DATA: u32 = 131_072;
+
+/// The most words that a memory, its caches and its tags take in each region of data.
+pub const MOST_MEMORY: usize = 1_048_576;
+
+/// The most steps that a schedule has.
+pub const MOST_STEPS: u32 = 200_000;
+
+/// The most items that a core's queue holds.
+pub const MOST_QUEUE: u32 = 64;
+
+/// The most strand buffers that a core has.
+pub const MOST_BUFFERS: u32 = 8;
+
+/// The most places that a ring has.
+pub const MOST_RING: u32 = 64;
+
+/// The most requests in flight.
+pub const MOST_FLIGHT: u32 = 64;
+
+/// The most sets that a core's cache has.
+pub const MOST_SETS: u32 = 64;
+
+/// The most ways that a core's cache has.
+pub const MOST_WAYS: u32 = 8;
+
+/// How many cores the parts of a machine and the definitions of order have room for, one number for each.
+pub const CORE_ROOM: usize = 8;

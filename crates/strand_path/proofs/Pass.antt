@@ -1,3 +1,0 @@
--- `longest`, the pass over the edges: what it gives are levels, first persists and links.
-pub mod Raised
-pub mod Traced

@@ -1,0 +1,10 @@
+use Rattle.std.proofs.Common.{◌≡◌, ◌≤◌}
+use Rattle.strand_base.specs.Counting.{count_below}
+use Rattle.strand_events.specs.Trace.{core_event_is, is_new_strand}
+use Rattle.strand_rules.proofs.past.Past.next_strand.Given as goal
+
+abbrev pub invariant-loop-k : goal.invariant-loop-k
+invariant-loop-k l = record {
+  counted : l.count ≡ count_below l.k (core_event_is is_new_strand l.n l.self.state.now.trace);
+  small : l.count ≤ l.k;
+}

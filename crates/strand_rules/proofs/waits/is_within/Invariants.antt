@@ -1,8 +1,0 @@
-use Rattle.std.proofs.Common.{◌≡◌}
-use Rattle.std.specs.Prelude.{nat_lt, slice_index}
-use Rattle.strand_base.specs.Counting.{any_below}
-use Rattle.strand_rules.specs.Next.{kept_wait}
-use Rattle.strand_rules.proofs.waits.is_within.Given as goal
-
-abbrev pub invariant-loop-c : goal.invariant-loop-c
-invariant-loop-c l = l.over ≡ any_below l.c (λ c. nat_lt (slice_index l.prefixes c) (kept_wait l.waits c l.x))
