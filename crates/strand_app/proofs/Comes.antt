@@ -1,11 +1,12 @@
 -- Serves clause runs of strand_main, for each command: what comes of it, by its files and its run.
-use Rattle.std.proofs.Common.{ℕ, List, [], refl, inl, inr}
+use Rattle.std.proofs.Common.{ℕ, List, [], ◌∷◌, refl, inl, inr}
 use Rattle.std.specs.Prelude.{Some, None, Ok, Err, IfOk}
 use Rattle.std.specs.declared.result.Result.{Result}
 use Rattle.strand_base.specs.FilesSeen.{FilesSeen}
 use Rattle.strand_base.specs.declared.out_of_memory.OutOfMemory.{OutOfMemory as NoMemory}
 use Rattle.strand_modules.specs.Bank.{BankSeen}
 use Rattle.strand_modules.proofs.FrontWords.{keeps_same}
+use Rattle.strand_report.specs.declared.refusal.ContentFault.{ContentFault}
 use Rattle.strand_run.specs.Fault.{Course}
 use Rattle.strand_run.specs.Inputs.{Inputs}
 use Rattle.strand_app.specs.declared.fetching.OpenFault.{OpenFault}
@@ -13,15 +14,17 @@ use Rattle.strand_app.specs.declared.fetching.OpenFault.TheVariants.{Fetch, Refu
 use Rattle.strand_app.specs.declared.status.Made.{Made}
 use Rattle.strand_app.specs.declared.status.Status.{Status}
 use Rattle.strand_app.specs.Answers.{AnswersFault, PutsOk}
+use Rattle.strand_app.specs.Fetching.{FetchesFile}
 use Rattle.strand_app.specs.Files.{Opened, Missed, Unread}
 use Rattle.strand_app.specs.Machine.{PutsRun, machine_rule, stepping_rule}
 use Rattle.strand_app.specs.Opening.{OpensTo}
-use Rattle.strand_app.specs.Reads.{Contents, Reads}
+use Rattle.strand_app.specs.Reads.{Contents, Reads, file}
 use Rattle.strand_app.specs.Rule.{Rule, Text}
 use Rattle.strand_app.specs.Running.{MakesByCourse, MakesOnBank}
 use Rattle.strand_app.specs.Runs.{Comes}
 use Rattle.strand_app.specs.Still.{still_rule}
 use Rattle.strand_app.specs.World.{world}
+use Rattle.strand_app.proofs.OpensTo.{one_opened, one_failed}
 
 -- a file that didn't come is one that wasn't read
 unread : {V : Type 0} (names : List (List ℕ)) (reads : Contents → Reads V) (before after : FilesSeen) (k : ℕ) → Missed names reads before after k → Unread names reads before after
@@ -47,6 +50,17 @@ pub still_comes : (Found : Type 0) (names : List (List ℕ)) (opens : Contents �
 still_comes Found names opens text_of before after bank found (Ok made) opened puts =
     inl (record { found = found; opened = opened; fault = None; allowed = refl; shown = refl; kept = keeps_same bank; leaves = refl; puts = puts })
 still_comes Found names opens text_of before after bank found (Err e) opened puts = inl (record { found = found; opened = opened; kept = keeps_same bank; leaves = refl })
+
+-- so for a command of one file
+module _ {Found : Type 0} (rule : List ℕ → Result Found ContentFault) (text_of : Found → Text) (name : List ℕ) (before after : FilesSeen) (bank : BankSeen) where
+  pub one_file_comes : (found : Found) (result : Result Made NoMemory) → FetchesFile 1 rule (λ f. f) name before after (Ok found) → IfOk result (PutsOk (text_of found))
+      → Comes (still_rule Found (name ∷ []) (file 1 rule) text_of bank) (world before bank) (world after bank) result
+  one_file_comes found result fetches puts = still_comes Found (name ∷ []) (file 1 rule) text_of before after bank found result (one_opened rule (λ f. f) name before after found fetches) puts
+
+  pub one_file_refused : (fault : OpenFault) (result : Result Made NoMemory) → FetchesFile 1 rule (λ f. f) name before after (Err fault) → IfOk result (AnswersFault fault)
+      → Comes (still_rule Found (name ∷ []) (file 1 rule) text_of bank) (world before bank) (world after bank) result
+  one_file_refused fault result fetches answers =
+      refused_comes (still_rule Found (name ∷ []) (file 1 rule) text_of bank) (λ f. f) before after bank fault result (one_failed rule (λ f. f) name before after fault fetches) answers
 
 -- What the files say was run on the bank.
 pub stepping_comes : (Found : Type 0) (inputs_of : Found → Inputs) (heading : Text) (Puts : Found → BankSeen → Course → Status → Text → Type 0) (Refutes : Found → Text → Type 0) (names : List (List ℕ)) (opens : Contents → Reads Found)

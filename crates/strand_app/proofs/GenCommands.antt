@@ -11,16 +11,19 @@ use Rattle.strand_report.specs.declared.refusal.Refusal.{Refusal}
 use Rattle.strand_run.specs.Inputs.{Inputs}
 use Rattle.strand_app.specs.declared.fetching.OpenFault.{OpenFault}
 use Rattle.strand_app.specs.declared.fetching.OpenFault.TheVariants.{Fetch, Refused, OutOfMemory}
+use Rattle.strand_app.specs.declared.opening.RunFiles.{RunFiles}
 use Rattle.strand_app.specs.declared.status.Made.{Made}
-use Rattle.strand_app.specs.Answers.{AnswersFault}
+use Rattle.strand_app.specs.Answers.{AnswersFault, PutsOk}
 use Rattle.strand_app.specs.Files.{Opened}
-use Rattle.strand_app.specs.Generated.{IsGiven}
+use Rattle.strand_app.specs.Generated.{IsGiven, generated}
+use Rattle.strand_app.specs.Opening.{all_inputs}
 use Rattle.strand_app.specs.Reads.{Reads, decided, given, then_reads}
-use Rattle.strand_app.specs.Rule.{Rule}
+use Rattle.strand_app.specs.Rule.{Rule, Text}
 use Rattle.strand_app.specs.RunFiles.{bank_holds, cut_off}
 use Rattle.strand_app.specs.Runs.{Comes, Stops}
-use Rattle.strand_app.specs.World.{world}
-use Rattle.strand_app.proofs.Comes.{refused_comes}
+use Rattle.strand_app.specs.Still.{still_rule}
+use Rattle.strand_app.specs.World.{World, world}
+use Rattle.strand_app.proofs.Comes.{refused_comes, still_comes}
 use Rattle.strand_app.proofs.OpensTo.{first_none}
 
 -- no file is named, and none is fetched
@@ -43,6 +46,21 @@ module _ (r : Rule) {W : Type 0} (view : W → r.Found) (reads : Reads r.Found) 
   given_fails (Fetch k) result is answers = absurd is
   given_fails OutOfMemory (Ok made) is answers = absurd answers
   given_fails OutOfMemory (Err e) is answers = stops reads.result (ap (λ (n : ℕ). record { fetches = n; result = reads.result }) is)
+
+-- a command that puts a text of what was generated
+module _ (seed size : ℕ) (text_of : Inputs → Text) (same : World) where
+  abbrev reads : Reads Inputs
+  reads = decided (generated seed size)
+
+  abbrev r : Rule
+  r = still_rule Inputs [] (λ contents. reads) text_of same.bank
+
+  pub generated_comes : (files : RunFiles) (result : Result Made NoMemory) → IsGiven all_inputs reads (Ok files) → IfOk result (PutsOk (text_of (all_inputs files))) → Comes r same same result
+  generated_comes files result is puts =
+      still_comes Inputs [] (λ contents. reads) text_of same.files same.files same.bank (all_inputs files) result (none_opened reads same.files (Ok (all_inputs files)) is) puts
+
+  pub generated_fails : (fault : OpenFault) (result : Result Made NoMemory) → IsGiven all_inputs reads (Err fault) → IfOk result (AnswersFault fault) → Comes r same same result
+  generated_fails fault result is answers = given_fails r all_inputs reads same.files same.bank (none_opened reads same.files) (λ u. refl) fault result is answers
 
 -- all steps of what was generated, on a bank of so many words
 module _ (bank : ℕ) where

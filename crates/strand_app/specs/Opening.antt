@@ -2,14 +2,12 @@
 use Rattle.std.specs.Prelude.{ℕ, ◌≤◌, List, [], ◌∷◌, All, length, take, Ok, Err}
 use Rattle.std.specs.declared.result.Result.{Result}
 use Rattle.strand_base.specs.declared.limits.TheConstants.{MOST_STEPS}
-use Rattle.strand_asm.specs.declared.fault.AsmFault.{AsmFault}
 use Rattle.strand_asm.specs.declared.fault.AsmFault.TheVariants as text
 use Rattle.strand_base.specs.FilesSeen.{FilesSeen}
-use Rattle.strand_image.specs.declared.fault.ImageFault.{ImageFault}
 use Rattle.strand_image.specs.declared.fault.ImageFault.TheVariants as image
 use Rattle.strand_inputs.specs.Schedule.{IsBelow}
-use Rattle.strand_inputs.specs.declared.fault.InputFault.{InputFault}
 use Rattle.strand_inputs.specs.declared.fault.InputFault.TheVariants as input
+use Rattle.strand_report.specs.declared.refusal.ContentFault.{ContentFault}
 use Rattle.strand_report.specs.declared.refusal.ContentFault.TheVariants as content
 use Rattle.strand_report.specs.declared.refusal.Refusal.TheVariants as refusal
 use Rattle.strand_run.specs.Inputs.{Inputs, inputs}
@@ -21,18 +19,12 @@ use Rattle.strand_app.specs.declared.opening.Setup.{Setup}
 use Rattle.strand_app.specs.Files.{Opened, Missed, Unread}
 use Rattle.strand_app.specs.Reads.{Contents, Reads}
 
--- want of memory is no fault of a content
-abbrev pub input_open_fault : ℕ → InputFault → OpenFault
-input_open_fault k input.OutOfMemory = OutOfMemory
-input_open_fault k fault = Refused (refusal.File k (content.Input fault))
-
-abbrev pub image_open_fault : ℕ → ImageFault → OpenFault
-image_open_fault k image.OutOfMemory = OutOfMemory
-image_open_fault k fault = Refused (refusal.File k (content.Image fault))
-
-abbrev pub text_open_fault : ℕ → AsmFault → OpenFault
-text_open_fault k text.OutOfMemory = OutOfMemory
-text_open_fault k fault = Refused (refusal.File k (content.Text fault))
+-- Why file k is not known to say something: want of memory is no fault of a content.
+abbrev pub open_fault : ℕ → ContentFault → OpenFault
+open_fault k (content.Input input.OutOfMemory) = OutOfMemory
+open_fault k (content.Image image.OutOfMemory) = OutOfMemory
+open_fault k (content.Text text.OutOfMemory) = OutOfMemory
+open_fault k fault = Refused (refusal.File k fault)
 
 -- Files of these names were opened: this came of it.
 abbrev pub OpensTo : {V W : Type 0} → List (List ℕ) → (Contents → Reads V) → (W → V) → FilesSeen → FilesSeen → Result W OpenFault → Type 0

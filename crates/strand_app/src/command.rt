@@ -2,7 +2,7 @@ ghost use Rattle.std.specs.Prelude.{◌≡◌};
 ghost use Rattle.std.specs.Option.{option_map};
 ghost use Rattle.strand_app.specs.Command.{one_file, two_numbers, three_files, four_files};
 ghost use Rattle.strand_app.specs.CommandView.{command_asked, view};
-ghost use Rattle.strand_inputs.specs.Machine.{number_of};
+ghost use Rattle.strand_inputs.specs.Machine.{decimal_in};
 
 use strand_base::read_decimal;
 use strand_inputs::{Stop, read_stop};
@@ -66,7 +66,7 @@ fn two_numbers<'a>(word: &str, seed: u64, size: u64) -> Option<Command<'a>>
 }
 
 fn number(word: &str) -> Option<u64>
-    ensures { result ≡ number_of word.now }
+    ensures { result ≡ decimal_in word.now }
 {
     read_decimal(word.as_bytes()).ok()
 }

@@ -4,7 +4,7 @@ ghost use Rattle.std.specs.Prelude.{◌≡◌, ◌≤◌, length, All, IfOk};
 ghost use Rattle.strand_app.specs.declared.file_sizes.TheConstants.{MOST_MACHINE_BYTES, MOST_FILE_BYTES, MOST_CRASH_BYTES};
 ghost use Rattle.strand_app.specs.Contents.{crash_in, image_in, machine_in, schedule_in, text_in};
 ghost use Rattle.strand_app.specs.Fetching.{FetchesFile, IsSaid};
-ghost use Rattle.strand_app.specs.Opening.{image_open_fault, input_open_fault, text_open_fault};
+ghost use Rattle.strand_app.specs.Opening.{open_fault};
 ghost use Rattle.strand_inputs.specs.Schedule.{IsBelow};
 
 use crate::fetching::{OpenFault, fetch};
@@ -16,40 +16,15 @@ use strand_image::{Image, ImageFault, read_image};
 use strand_inputs::{Config, InputFault, Schedule, Words, read_crash, read_machine, read_schedule};
 use strand_report::{ContentFault, Refusal};
 
-// Why file k is not known to say something, where a reader refused it.
-fn input_fault(file: u32, fault: InputFault) -> OpenFault
-    ensures { result ≡ input_open_fault file fault }
+// Why file k is not known to say something: want of memory is no fault of a content.
+fn open_fault(file: u32, fault: ContentFault) -> OpenFault
+    ensures { result ≡ open_fault file fault }
 {
     match fault {
-        InputFault::OutOfMemory => OpenFault::OutOfMemory,
-        _ => OpenFault::Refused(Refusal::File {
-            file,
-            fault: ContentFault::Input(fault),
-        }),
-    }
-}
-
-fn image_fault(file: u32, fault: ImageFault) -> OpenFault
-    ensures { result ≡ image_open_fault file fault }
-{
-    match fault {
-        ImageFault::OutOfMemory => OpenFault::OutOfMemory,
-        _ => OpenFault::Refused(Refusal::File {
-            file,
-            fault: ContentFault::Image(fault),
-        }),
-    }
-}
-
-fn text_fault(file: u32, fault: AsmFault) -> OpenFault
-    ensures { result ≡ text_open_fault file fault }
-{
-    match fault {
-        AsmFault::OutOfMemory => OpenFault::OutOfMemory,
-        _ => OpenFault::Refused(Refusal::File {
-            file,
-            fault: ContentFault::Text(fault),
-        }),
+        ContentFault::Input(InputFault::OutOfMemory)
+        | ContentFault::Image(ImageFault::OutOfMemory)
+        | ContentFault::Text(AsmFault::OutOfMemory) => OpenFault::OutOfMemory,
+        _ => OpenFault::Refused(Refusal::File { file, fault }),
     }
 }
 
@@ -59,7 +34,7 @@ fn machine_of(bytes: &[u8]) -> Result<Config, OpenFault>
 {
     match read_machine(bytes) {
         Ok(config) => Ok(config),
-        Err(fault) => Err(input_fault(1, fault)),
+        Err(fault) => Err(open_fault(1, ContentFault::Input(fault))),
     }
 }
 
@@ -82,7 +57,7 @@ fn image_of(alloc: Global, file: u32, bytes: &[u8]) -> Result<Image, OpenFault>
 {
     match read_image(alloc, bytes) {
         Ok(image) => Ok(image),
-        Err(fault) => Err(image_fault(file, fault)),
+        Err(fault) => Err(open_fault(file, ContentFault::Image(fault))),
     }
 }
 
@@ -112,7 +87,7 @@ fn schedule_of(
 {
     match read_schedule(alloc, bytes, image.entries().len() as u32, config.buffers) {
         Ok(schedule) => Ok(schedule),
-        Err(fault) => Err(input_fault(3, fault)),
+        Err(fault) => Err(open_fault(3, ContentFault::Input(fault))),
     }
 }
 
@@ -139,7 +114,7 @@ fn crash_of(alloc: Global, image: &Image, bytes: &[u8]) -> Result<Words, OpenFau
 {
     match read_crash(alloc, bytes, image.persistent().len() as u32) {
         Ok(words) => Ok(words),
-        Err(fault) => Err(input_fault(4, fault)),
+        Err(fault) => Err(open_fault(4, ContentFault::Input(fault))),
     }
 }
 
@@ -164,7 +139,7 @@ fn text_of(alloc: Global, bytes: &[u8]) -> Result<Image, OpenFault>
 {
     match assemble(alloc, bytes) {
         Ok(image) => Ok(image),
-        Err(fault) => Err(text_fault(1, fault)),
+        Err(fault) => Err(open_fault(1, ContentFault::Text(fault))),
     }
 }
 

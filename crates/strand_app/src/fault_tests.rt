@@ -212,13 +212,18 @@ fn put_refusal(
     Ok(text)
 }
 
-// What is due of a command, where `whole` comes of it if nothing fails.
+// What is due of a command, where `whole` comes of it if nothing fails and the sink doesn't.
 fn due_of(
     alloc: Global,
     outside: Outside<'_>,
     case: Case<'_>,
     whole: &Outcome,
 ) -> Result<Outcome, Fail> {
+    let fetch = outside.fetch;
+    if fetch > 0 && fetch <= case.files {
+        let line = format!(in alloc; "fault file {fetch}\n")?;
+        return at_entry(alloc, outside, Status::FileFault, line.as_bytes());
+    }
     let calls = calls_of(alloc, case)?;
     let mut due = at_entry(alloc, outside, whole.status, &whole.text)?;
     if let Some((module, phase)) = make_calls(alloc, outside, &calls, &mut due)? {
@@ -228,8 +233,22 @@ fn due_of(
     Ok(due)
 }
 
-// These calls of the modules fail.
-fn check_calls(
+// The sink takes so many bytes in a call, up to the one that fails.
+fn cut_at_put(outside: Outside<'_>, due: &mut Outcome) {
+    if outside.put == 0 {
+        return;
+    }
+    let taken = outside
+        .most
+        .wrapping_mul(outside.put.wrapping_sub(1) as usize);
+    if taken < due.text.len() {
+        due.status = Status::SinkFault;
+        due.text.truncate(taken);
+    }
+}
+
+// What is due comes of a command.
+fn check(
     rt: &impl Abort,
     alloc: Global,
     outside: Outside<'_>,
@@ -237,12 +256,13 @@ fn check_calls(
     whole: &Outcome,
 ) -> Result<(), Fail> {
     let words = case.words;
-    let calls = outside.modules;
-    let due = due_of(alloc, outside, case, whole)?;
+    let (fetch, put, calls) = (outside.fetch, outside.put, outside.modules);
+    let mut due = due_of(alloc, outside, case, whole)?;
+    cut_at_put(outside, &mut due);
     assert_eq!(rt;
         outcome_of(alloc, outside, words)?,
         due,
-        "{words}, {calls:?}"
+        "{words}, fetch {fetch}, put {put}, {calls:?}"
     );
     Ok(())
 }
@@ -259,7 +279,7 @@ fn check_one(
         modules: &[calls],
         ..ONE
     };
-    check_calls(rt, alloc, outside, case, whole)
+    check(rt, alloc, outside, case, whole)
 }
 
 // A call of each of two modules fails.
@@ -274,7 +294,7 @@ fn check_two(
         modules: &calls,
         ..HALVES
     };
-    check_calls(rt, alloc, outside, case, whole)
+    check(rt, alloc, outside, case, whole)
 }
 
 #[test]
@@ -305,30 +325,6 @@ fn two_loads_or_stores_fail(rt: HostRuntime) -> Result<(), Fail> {
     Ok(())
 }
 
-// The sink takes so many bytes in a call, and this call of it fails.
-fn check_put(
-    rt: &impl Abort,
-    alloc: Global,
-    outside: Outside<'_>,
-    case: Case<'_>,
-    whole: &Outcome,
-) -> Result<(), Fail> {
-    let words = case.words;
-    let put = outside.put;
-    let mut due = due_of(alloc, outside, case, whole)?;
-    let taken = outside.most.wrapping_mul(put.wrapping_sub(1) as usize);
-    if taken < due.text.len() {
-        due.status = Status::SinkFault;
-        due.text.truncate(taken);
-    }
-    assert_eq!(rt;
-        outcome_of(alloc, outside, words)?,
-        due,
-        "{words}, put {put}"
-    );
-    Ok(())
-}
-
 // A short text is taken byte by byte, and a long one in more than 30 pieces.
 #[test]
 fn each_put_fails(rt: HostRuntime) -> Result<(), Fail> {
@@ -343,8 +339,8 @@ fn each_put_fails(rt: HostRuntime) -> Result<(), Fail> {
                 most,
                 ..HALVES
             };
-            check_put(&rt, alloc, one, *case, &whole)?;
-            check_put(&rt, alloc, two, *case, &whole)?;
+            check(&rt, alloc, one, *case, &whole)?;
+            check(&rt, alloc, two, *case, &whole)?;
         }
     }
     Ok(())
@@ -361,33 +357,8 @@ fn a_put_fails_behind_a_load_or_store(rt: HostRuntime) -> Result<(), Fail> {
             modules: &[[call, 0]],
             ..ONE
         };
-        check_put(&rt, alloc, outside, RUN, &whole)?;
+        check(&rt, alloc, outside, RUN, &whole)?;
     }
-    Ok(())
-}
-
-// The fetch of this number fails, if there is one.
-fn check_fetch(
-    rt: &impl Abort,
-    alloc: Global,
-    outside: Outside<'_>,
-    case: Case<'_>,
-    whole: &Outcome,
-    fetch: u64,
-) -> Result<(), Fail> {
-    let outside = Outside { fetch, ..outside };
-    let line = format!(in alloc; "fault file {fetch}\n")?;
-    let due = if fetch <= case.files {
-        at_entry(alloc, outside, Status::FileFault, line.as_bytes())?
-    } else {
-        due_of(alloc, outside, case, whole)?
-    };
-    assert_eq!(rt;
-        outcome_of(alloc, outside, case.words)?,
-        due,
-        "{}, fetch {fetch}",
-        case.words
-    );
     Ok(())
 }
 
@@ -397,8 +368,8 @@ fn each_fetch_fails(rt: HostRuntime) -> Result<(), Fail> {
     for case in CASES {
         let whole = outcome_of(alloc, ONE, case.words)?;
         for fetch in 1..=case.files.saturating_add(1) {
-            check_fetch(&rt, alloc, ONE, *case, &whole, fetch)?;
-            check_fetch(&rt, alloc, HALVES, *case, &whole, fetch)?;
+            check(&rt, alloc, Outside { fetch, ..ONE }, *case, &whole)?;
+            check(&rt, alloc, Outside { fetch, ..HALVES }, *case, &whole)?;
         }
     }
     Ok(())

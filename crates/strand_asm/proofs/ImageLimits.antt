@@ -11,19 +11,19 @@ use Rattle.strand_image.specs.Image as image
 use Rattle.strand_image.specs.declared.quantity.Quantity.{Quantity}
 use Rattle.strand_image.specs.declared.quantity.Quantity.TheVariants.{Cores, Code, Volatile, Persistent}
 use Rattle.strand_asm.specs.declared.layout.Layout.{Layout}
-use Rattle.strand_asm.specs.Layout.{layout_of, nothing}
+use Rattle.strand_asm.specs.Layout.{layout_of, empty_layout}
 use Rattle.strand_asm.specs.DraftSeen.{DraftSeen}
 use Rattle.strand_asm.specs.Draft.{blank, draft_of}
 use Rattle.strand_asm.specs.Assemble.{limit_check, cores_of_entries, limited, entered, with_entry}
 use Rattle.strand_asm.proofs.PassCounts.{Agrees, both, lines_agree}
 
-starts : (total : ℕ) → Agrees total nothing blank
-unfolding nothing blank
+starts : (total : ℕ) → Agrees total empty_layout blank
+unfolding empty_layout blank
 starts total = record { sections = refl; entries_count = refl; code_count = refl; volatile_count = refl; persistent_count = refl; entries_within = λ k here. absurd (omega (arith, here)) }
 
 agrees : (text : List ℕ) (layout : Layout) (draft : DraftSeen) → layout_of text ≡ Ok layout → draft_of layout text ≡ Ok draft → Agrees layout.code layout draft
 unfolding layout_of draft_of
-agrees text layout draft e f = lines_agree layout 1 nothing layout blank draft (lines_of text) e f (starts layout.code)
+agrees text layout draft e f = lines_agree layout 1 empty_layout layout blank draft (lines_of text) e f (starts layout.code)
 
 passes : (what : Quantity) (n : ℕ) (b : Bool) (x : Unit {0}) → is_within what n ≡ b → limit_check what n ≡ Ok x → is_within what n ≡ true
 passes what n true x t e = t

@@ -1,5 +1,5 @@
 -- Serves clause text of list: the text of lines, part by part.
-use Rattle.std.proofs.Common.{◌≡◌, ℕ, zero, suc, ◌+◌, ◌<◌, ◌≤◌, arith, List, [], ◌∷◌, ◌++◌, length, map, drop, get_or, Bool, true, false, Option, Some, None, Result, Ok, Err, refl, sym, ap, subst, ◌∙◌, append_assoc, add-one, drop-cons}
+use Rattle.std.proofs.Common.{◌≡◌, ℕ, zero, suc, ◌+◌, ◌<◌, ◌≤◌, arith, List, [], ◌∷◌, ◌++◌, length, map, drop, get_or, Bool, true, Option, Some, None, Result, Ok, Err, refl, sym, ap, ◌∙◌, append_assoc, add-one, drop-cons}
 use Rattle.std.specs.Fmt.{decimal}
 use Rattle.std.proofs.lemmas.List.{append-nil, drop_all}
 use lib.Chars.{codes}
@@ -64,10 +64,6 @@ print_stops e None w old new h = absurd h
 pub line_printed : {T F : Type 0} (r : Result T F) (b : Bool) (o : Option (List ℕ)) (w : ℕ) (old mid new : List ℕ) → b ≡ true → (let k : Result Bool OutOfMemory = Ok b in Prints k o old mid) → Puts r (10 ∷ []) mid new → Puts r (text_or w o ++ 10 ∷ []) old new
 line_printed r b (Some text) w old mid new is h g = puts_after r text (10 ∷ []) old mid new h.1 g
 line_printed r b None w old mid new is h g = absurd (let e = h.0 in cc)
-
-pub number_printed : {T F : Type 0} (r : Result T F) (b : Bool) (o : Option (List ℕ)) (w : ℕ) (old mid new : List ℕ) → b ≡ false → (let k : Result Bool OutOfMemory = Ok b in Prints k o old mid) → Puts r (word_text 8 w ++ 10 ∷ []) mid new → Puts r (text_or w o ++ 10 ∷ []) old new
-number_printed r b (Some text) w old mid new is h g = absurd (let e = h.0 in cc)
-number_printed r b None w old mid new is h g = subst (λ (m : List ℕ). Puts r (word_text 8 w ++ 10 ∷ []) m new) h.1 g
 
 -- a listing, section by section
 pub listing_parts : (p : ImageSeen) → listing p ≡ (lines_text (entry_lines p.entries) ++ (codes ".code\n" ++ lines_text (code_lines p.code))) ++ ((codes ".volatile\n" ++ lines_text (data_lines 0 p.volatile)) ++ (codes ".persist\n" ++ lines_text (data_lines 0 p.persistent)))

@@ -23,9 +23,9 @@ use Rattle.strand_asm.specs.declared.addition.Addition.{Addition}
 use Rattle.strand_asm.specs.declared.layout.Layout.{Layout}
 use Rattle.strand_asm.specs.declared.place.Place.{Place}
 use Rattle.strand_asm.specs.declared.place.Site.{Site}
-use Rattle.strand_asm.specs.Operands.{number, below, wrapped}
-use Rattle.strand_asm.specs.Layout.{◌>>=◌, at_line, on_line, over_lines, label_place, size_by, size_of, grown, is_code, is_placed, unless_duplicate, with_more_words, with_label, laid}
-use Rattle.strand_asm.specs.Encode.{Table, fitted, one, jump, li_coded, offset_to, label_address, coded}
+use Rattle.strand_asm.specs.Operands.{number, natural_below, wrapped}
+use Rattle.strand_asm.specs.Layout.{◌>>=◌, at_line, on_line, over_lines, label_place, size_by, size_of, layout_after, is_code, is_placed, unless_duplicate, with_more_words, with_label, laid}
+use Rattle.strand_asm.specs.Encode.{Table, fitted, one_coded, jump, li_coded, offset_to, label_address, coded}
 use Rattle.strand_asm.specs.DraftSeen.{DraftSeen}
 use Rattle.strand_asm.specs.Draft.{entry_number, entry_added, word_added, coded_words, with_data, addition, added, drafted}
 
@@ -57,7 +57,7 @@ abbrev count : Coded → ℕ
 count (One i) = 1
 count (Two i j) = 2
 
-fitted_counts : (line : ℕ) (z : ℤ) (i : Option Instr) (c : Coded) → one line z i ≡ Ok c → count c ≡ 1
+fitted_counts : (line : ℕ) (z : ℤ) (i : Option Instr) (c : Coded) → one_coded line z i ≡ Ok c → count c ≡ 1
 fitted_counts line z (Some i) (One j) e = refl
 fitted_counts line z (Some i) (Two j k) e = absurd cc
 fitted_counts line z None c e = absurd cc
@@ -90,7 +90,7 @@ below_test : (line : ℕ) (z : ℤ) (m bound n : ℕ) (b : Bool) → nat_lt m bo
 below_test line z m bound n true t e = let same = ok_inside m n e in grind (arith, nat_tests)
 below_test line z m bound n false t e = absurd cc
 
-below_bound : (line bound : ℕ) (z : ℤ) (n : ℕ) → fitted line z (below bound z) ≡ Ok n → n < bound
+below_bound : (line bound : ℕ) (z : ℤ) (n : ℕ) → fitted line z (natural_below bound z) ≡ Ok n → n < bound
 below_bound line bound (pos m) n e = below_test line (pos m) m bound n (nat_lt m bound) refl e
 below_bound line bound (negsuc m) n e = absurd cc
 
@@ -143,12 +143,12 @@ word_agrees total line l d z more sections.Persist same e h =
     let b = both (fitted line z (wrapped 9223372036854775808 z)) _ more e in
     subst (λ (m : Addition). Agrees total (with_more_words sections.Persist 1 l) (added d m)) (ok_inside _ more b.1.1) (section_agrees total l d sections.Persist (b.0 ∷ []) 1 same refl refl h)
 
-entry_agrees : (whole : Layout) (line : ℕ) (l : Layout) (d : DraftSeen) (target : Operand) (more : Addition) → entry_added whole line target ≡ Ok more → Agrees whole.code l d → Agrees whole.code (grown l (bodies.Entry target)) (added d more)
+entry_agrees : (whole : Layout) (line : ℕ) (l : Layout) (d : DraftSeen) (target : Operand) (more : Addition) → entry_added whole line target ≡ Ok more → Agrees whole.code l d → Agrees whole.code (layout_after l (bodies.Entry target)) (added d more)
 unfolding entry_added added
 entry_agrees whole line l d target more e h =
     let b = both (entry_number whole line target) _ more e in
-    let k = both (fitted line b.0 (below whole.code b.0)) _ more b.1.1 in
-    subst (λ (m : Addition). Agrees whole.code (grown l (bodies.Entry target)) (added d m)) (ok_inside _ more k.1.1) (record {
+    let k = both (fitted line b.0 (natural_below whole.code b.0)) _ more b.1.1 in
+    subst (λ (m : Addition). Agrees whole.code (layout_after l (bodies.Entry target)) (added d m)) (ok_inside _ more k.1.1) (record {
       sections = h.sections;
       entries_count = length-append d.parts.entries (k.0 ∷ []) ∙ ap (λ n. n + 1) h.entries_count;
       code_count = h.code_count;
@@ -167,7 +167,7 @@ no_space_in_code sections.Code n e = absurd cc
 no_space_in_code sections.Volatile n e = refl
 no_space_in_code sections.Persist n e = refl
 
-body_agrees : (whole : Layout) (site : Site) (l : Layout) (d : DraftSeen) (body : Body) (more : Addition) → is_placed l.section body ≡ true → addition whole site d.section body ≡ Ok more → Agrees whole.code l d → Agrees whole.code (grown l body) (added d more)
+body_agrees : (whole : Layout) (site : Site) (l : Layout) (d : DraftSeen) (body : Body) (more : Addition) → is_placed l.section body ≡ true → addition whole site d.section body ≡ Ok more → Agrees whole.code l d → Agrees whole.code (layout_after l body) (added d more)
 unfolding addition added
 body_agrees whole site l d bodies.Empty more placed e h = subst (λ (m : Addition). Agrees whole.code l (added d m)) (ok_inside _ more e) h
 body_agrees whole site l d (bodies.Section s) more placed e h =
@@ -222,7 +222,7 @@ line_agrees whole n l l' d d' line e f h =
     let k = label_agrees whole.code n line.label l named.0 d named.1.0 h in
     let placed : is_placed named.0.section line.body ≡ true = ap (λ (s : Section). is_placed s line.body) k.1 ∙ t.0 in
     let g = body_agrees whole _ named.0 d line.body more.0 placed more.1.0 k.0 in
-    subst (λ (m : Layout). Agrees whole.code m d') (ok_inside _ l' named.1.1) (subst (λ (m : DraftSeen). Agrees whole.code (grown named.0 line.body) m) (ok_inside _ d' more.1.1) g)
+    subst (λ (m : Layout). Agrees whole.code m d') (ok_inside _ l' named.1.1) (subst (λ (m : DraftSeen). Agrees whole.code (layout_after named.0 line.body) m) (ok_inside _ d' more.1.1) g)
 
 pub lines_agree : (whole : Layout) (n : ℕ) (l l' : Layout) (d d' : DraftSeen) (texts : List (List ℕ)) → over_lines laid n l texts ≡ Ok l' → over_lines (drafted whole) n d texts ≡ Ok d' → Agrees whole.code l d → Agrees whole.code l' d'
 unfolding over_lines

@@ -1,7 +1,7 @@
 -- The second pass over a text: what each line adds to the image.
 use Rattle.std.specs.Prelude.{ℕ, ℤ, pos, List, [], ◌∷◌, ◌++◌, length, replicate, Result, Ok}
 use Rattle.strand_base.specs.Text.{lines_of}
-use Rattle.strand_isa.specs.Word.{word_of}
+use Rattle.strand_isa.specs.Word.{instr_word}
 use Rattle.strand_image.specs.ImageSeen.{ImageSeen, image_seen}
 use Rattle.strand_asm_lines.specs.declared.line.Section.{Section}
 use Rattle.strand_asm_lines.specs.declared.line.Section.TheVariants as sections
@@ -10,7 +10,7 @@ use Rattle.strand_asm_lines.specs.declared.line.Operand.TheVariants as operands
 use Rattle.strand_asm_lines.specs.declared.line.Body.{Body}
 use Rattle.strand_asm_lines.specs.declared.line.Body.TheVariants as bodies
 use Rattle.strand_asm_lines.specs.declared.line.Line.{Line}
-use Rattle.strand_asm.specs.Operands.{number, below, wrapped}
+use Rattle.strand_asm.specs.Operands.{number, natural_below, wrapped}
 use Rattle.strand_asm.specs.Layout.{◌>>=◌, over_lines}
 use Rattle.strand_asm.specs.Encode.{fitted, word_named, pattern_coded}
 use Rattle.strand_asm.specs.DraftSeen.{DraftSeen}
@@ -32,7 +32,7 @@ entry_number layout line target = Ok (number target)
 unfoldable pub entry_added : Layout → ℕ → Operand → Result Addition AsmFault
 entry_added layout line target = do
   z ← entry_number layout line target
-  n ← fitted line z (below layout.code z)
+  n ← fitted line z (natural_below layout.code z)
   Ok (Entry n)
 
 unfoldable pub word_added : ℕ → Section → ℤ → Result Addition AsmFault
@@ -44,8 +44,8 @@ word_added line _ z = do
   Ok (Data n)
 
 abbrev pub coded_words : Coded → Addition
-coded_words (One i) = Code (word_of i)
-coded_words (Two i j) = Pair (word_of i) (word_of j)
+coded_words (One i) = Code (instr_word i)
+coded_words (Two i j) = Pair (instr_word i) (instr_word j)
 
 -- what a line adds
 unfoldable pub addition : Layout → Site → Section → Body → Result Addition AsmFault

@@ -24,7 +24,7 @@ use Rattle.strand_asm_lines.specs.declared.line.Operand.TheVariants as operands
 use Rattle.strand_asm_lines.specs.declared.line.Pattern.{Pattern}
 use Rattle.strand_asm_lines.specs.declared.mnemonic.Mnemonic.{Mnemonic}
 use Rattle.strand_asm_lines.specs.declared.mnemonic.Mnemonic.TheVariants as mnemonics
-use Rattle.strand_asm.specs.Operands.{register, number, below, signed, even}
+use Rattle.strand_asm.specs.Operands.{register, number, natural_below, signed, even}
 use Rattle.strand_asm.specs.Layout.{◌>>=◌, label_place}
 use Rattle.strand_asm.specs.declared.coded.Coded.{Coded}
 use Rattle.strand_asm.specs.declared.coded.Coded.TheVariants.{One, Two}
@@ -85,27 +85,27 @@ li_coded line rd z =
     if is_in_range 2147483648 z then Ok (pair rd (field_of 2147483648 z)) else Err (Range line z)
 
 -- an instruction whose number is in its field, or the fault
-abbrev pub one : ℕ → ℤ → Option Instr → Result Coded AsmFault
-one line z i = fitted line z (option_map (λ j. One j) i)
+abbrev pub one_coded : ℕ → ℤ → Option Instr → Result Coded AsmFault
+one_coded line z i = fitted line z (option_map (λ j. One j) i)
 
 -- the instructions of each form, by its operands
 abbrev pub upper_coded : ℕ → UpperOp → Operand → Operand → Result Coded AsmFault
-upper_coded line op a b = one line (number b) (option_map (λ n. Upper op (register a) n) (below 1048576 (number b)))
+upper_coded line op a b = one_coded line (number b) (option_map (λ n. Upper op (register a) n) (natural_below 1048576 (number b)))
 
 abbrev pub jalr_coded : ℕ → Operand → Operand → Result Coded AsmFault
-jalr_coded line a b = one line (number b) (option_map (λ n. Jalr (register a) (register b) n) (signed 2048 (number b)))
+jalr_coded line a b = one_coded line (number b) (option_map (λ n. Jalr (register a) (register b) n) (signed 2048 (number b)))
 
 abbrev pub load_coded : ℕ → LoadOp → Operand → Operand → Result Coded AsmFault
-load_coded line op a b = one line (number b) (option_map (λ n. Load op (register a) (register b) n) (signed 2048 (number b)))
+load_coded line op a b = one_coded line (number b) (option_map (λ n. Load op (register a) (register b) n) (signed 2048 (number b)))
 
 abbrev pub store_coded : ℕ → StoreOp → Operand → Operand → Result Coded AsmFault
-store_coded line op a b = one line (number b) (option_map (λ n. Store op (register b) (register a) n) (signed 2048 (number b)))
+store_coded line op a b = one_coded line (number b) (option_map (λ n. Store op (register b) (register a) n) (signed 2048 (number b)))
 
 abbrev pub imm_coded : ℕ → ImmOp → Operand → Operand → Operand → Result Coded AsmFault
-imm_coded line op a b c = one line (number c) (option_map (λ n. Imm op (register a) (register b) n) (signed 2048 (number c)))
+imm_coded line op a b c = one_coded line (number c) (option_map (λ n. Imm op (register a) (register b) n) (signed 2048 (number c)))
 
 abbrev pub shift_coded : ℕ → ShiftOp → Operand → Operand → Operand → Result Coded AsmFault
-shift_coded line op a b c = one line (number c) (option_map (λ n. Shift op (register a) (register b) n) (below (amount_bound op) (number c)))
+shift_coded line op a b c = one_coded line (number c) (option_map (λ n. Shift op (register a) (register b) n) (natural_below (amount_bound op) (number c)))
 
 -- an operation on two registers has no number
 abbrev pub reg_coded : RegOp → Operand → Operand → Operand → Coded
@@ -119,12 +119,12 @@ move_coded a b = One (Imm Addi (register a) (register b) (pos 0))
 abbrev pub jump : Table → Site → ℕ → Operand → Result Coded AsmFault
 jump labels site rd target = do
   z ← offset_to labels site target
-  one site.line z (option_map (λ o. Jal rd o) (even 1048576 z))
+  one_coded site.line z (option_map (λ o. Jal rd o) (even 1048576 z))
 
 abbrev pub branch_coded : Table → Site → BranchOp → Operand → Operand → Operand → Result Coded AsmFault
 branch_coded labels site op a b c = do
   z ← offset_to labels site c
-  one site.line z (option_map (λ o. Branch op (register a) (register b) o) (even 4096 z))
+  one_coded site.line z (option_map (λ o. Branch op (register a) (register b) o) (even 4096 z))
 
 -- 'la' makes the address of a label
 abbrev pub la_coded : Table → ℕ → Operand → Operand → Result Coded AsmFault

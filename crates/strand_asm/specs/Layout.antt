@@ -68,13 +68,13 @@ with_more_words Code n l = record l { code = l.code + n }
 with_more_words Volatile n l = record l { volatile = l.volatile + n }
 with_more_words Persist n l = record l { persistent = l.persistent + n }
 
-abbrev pub grown : Layout → Body → Layout
-grown l bodies.Empty = l
-grown l (bodies.Section s) = record l { section = s }
-grown l (bodies.Entry target) = record l { cores = l.cores + 1 }
-grown l (bodies.Word z) = with_more_words l.section 1 l
-grown l (bodies.Space n) = with_more_words l.section n l
-grown l (bodies.Code p) = with_more_words Code (size_of p) l
+abbrev pub layout_after : Layout → Body → Layout
+layout_after l bodies.Empty = l
+layout_after l (bodies.Section s) = record l { section = s }
+layout_after l (bodies.Entry target) = record l { cores = l.cores + 1 }
+layout_after l (bodies.Word z) = with_more_words l.section 1 l
+layout_after l (bodies.Space n) = with_more_words l.section n l
+layout_after l (bodies.Code p) = with_more_words Code (size_of p) l
 
 -- Instructions stand in the code, and '.space' does not.
 abbrev pub is_code : Section → Bool
@@ -101,13 +101,13 @@ with_label n (Some name) l =
 unfoldable pub laid : ℕ → Layout → Line → Result Layout AsmFault
 laid n l line = if is_placed l.section line.body then (do
   named ← with_label n line.label l
-  Ok (grown named line.body)) else Err (LineAt (record { line = n; kind = UnknownName }))
+  Ok (layout_after named line.body)) else Err (LineAt (record { line = n; kind = UnknownName }))
 
-unfoldable pub nothing : Layout
-nothing = record { section = Code; cores = 0; code = 0; volatile = 0; persistent = 0; labels = [] }
+unfoldable pub empty_layout : Layout
+empty_layout = record { section = Code; cores = 0; code = 0; volatile = 0; persistent = 0; labels = [] }
 
 unfoldable pub layout_of : List ℕ → Result Layout AsmFault
-layout_of text = over_lines laid 1 nothing (lines_of text)
+layout_of text = over_lines laid 1 empty_layout (lines_of text)
 
 -- no number of a layout is past a bound
 pub record IsAtMost (bound : ℕ) (l : Layout) : Type 0 where

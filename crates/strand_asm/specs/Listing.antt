@@ -7,7 +7,7 @@ use lib.Chars.{codes}
 use Rattle.strand_base.specs.Hexadecimal.{hex16}
 use Rattle.strand_isa.specs.Decode.{instr_of}
 use Rattle.strand_isa.specs.Print.{instr_text}
-use Rattle.strand_isa.specs.Word.{IsValid, word_of}
+use Rattle.strand_isa.specs.Word.{IsValid, instr_word}
 use Rattle.strand_image.specs.ImageSeen.{ImageSeen}
 
 abbrev pub entry_text : ℕ → List ℕ
@@ -57,4 +57,4 @@ listing p = lines_text (listing_lines p)
 
 -- a word that an instruction has is that instruction's word
 abbrev pub IsDecoded : ℕ → Type 0
-IsDecoded w = IfSome (instr_of w) (λ i. IsValid i × (word_of i ≡ w))
+IsDecoded w = IfSome (instr_of w) (λ i. IsValid i × (instr_word i ≡ w))

@@ -22,9 +22,9 @@ number (Label name) = pos 0
 number (Mem offset base) = offset
 
 -- a number below a bound
-abbrev pub below : ℕ → ℤ → Option ℕ
-below bound (pos n) = if nat_lt n bound then Some n else None
-below bound (negsuc n) = None
+abbrev pub natural_below : ℕ → ℤ → Option ℕ
+natural_below bound (pos n) = if nat_lt n bound then Some n else None
+natural_below bound (negsuc n) = None
 
 -- a number from -half to half - 1
 abbrev pub signed : ℕ → ℤ → Option ℤ

@@ -1,7 +1,7 @@
 ghost use Rattle.std.specs.Prelude.{◌≡◌, ◌<◌, ◌^◌, IfOk};
 ghost use Rattle.strand_asm_lines.specs.Line.{HasOperandRegister};
 ghost use Rattle.strand_asm.specs.Operands.{number};
-ghost use Rattle.strand_asm.specs.Encode.{AreValid, branch_coded, coded, imm_coded, jalr_coded, jump, la_coded, li_coded, load_coded, move_coded, one, pair, pattern_coded, reg_coded, shift_coded, store_coded, upper_coded};
+ghost use Rattle.strand_asm.specs.Encode.{AreValid, branch_coded, coded, imm_coded, jalr_coded, jump, la_coded, li_coded, load_coded, move_coded, one_coded, pair, pattern_coded, reg_coded, shift_coded, store_coded, upper_coded};
 ghost use Rattle.strand_asm.specs.declared.fault.AsmFault.{AsmFault};
 
 use crate::AsmFault;
@@ -33,7 +33,7 @@ const RET: Instr = Instr::Jalr {
 };
 
 fn one(line: u32, value: i128, instr: Option<Instr>) -> Result<Coded, AsmFault>
-    ensures { result ≡ one line value instr }
+    ensures { result ≡ one_coded line value instr }
 {
     match instr {
         Some(instr) => Ok(Coded::One(instr)),

@@ -1,7 +1,7 @@
 ghost use Rattle.std.specs.Prelude.{◌≡◌, ◌+◌, ◌-◌, ◌*◌, ◌<◌, ◌≤◌, ◌^◌, length, OnOk, Ok};
 ghost use Rattle.strand_base.specs.Text.{lines_of};
 ghost use Rattle.strand_asm_lines.specs.Line.{line_of};
-ghost use Rattle.strand_asm.specs.Layout.{GivesAssembly, IsAtMost, GivesState, at_line, count_in, grown, is_code, is_placed, laid, layout_of, on_line, size_of, with_label, with_more_words};
+ghost use Rattle.strand_asm.specs.Layout.{GivesAssembly, IsAtMost, GivesState, at_line, count_in, layout_after, is_code, is_placed, laid, layout_of, on_line, size_of, with_label, with_more_words};
 
 use crate::AsmFault;
 use crate::layout::{Layout, nothing};
@@ -79,7 +79,7 @@ fn add_words(layout: &mut Layout, section: Section, count: u32, lines: u32)
 fn grow(layout: &mut Layout, body: &Body, lines: u32)
     requires room { IsAtMost (4294967295 * lines) layout.old }
     requires lines { lines + 1 < 2 ^ 32 }
-    ensures gives { layout.new ≡ grown layout.old body.now }
+    ensures gives { layout.new ≡ layout_after layout.old body.now }
     ensures room { IsAtMost (4294967295 * (lines + 1)) layout.new }
 {
     let section = layout.section;

@@ -1,6 +1,6 @@
 ghost use Rattle.std.specs.Prelude.{◌≡◌, ◌≤◌, OnOk};
 ghost use Rattle.strand_base.specs.declared.limits.TheConstants.{MOST_CODE};
-ghost use Rattle.strand_asm.specs.Layout.{nothing};
+ghost use Rattle.strand_asm.specs.Layout.{empty_layout};
 ghost use Rattle.strand_asm.specs.Assemble.{limited, limit_check};
 
 use crate::AsmFault;
@@ -22,9 +22,9 @@ pub(crate) struct Layout {
 }
 
 /// The layout before the first line.
-#[tactic(auto, unfolding(crate::specs::Layout::nothing))]
+#[tactic(auto, unfolding(crate::specs::Layout::empty_layout))]
 pub(crate) fn nothing(alloc: Global) -> Layout
-    ensures { result ≡ nothing }
+    ensures { result ≡ empty_layout }
 {
     Layout {
         section: Section::Code,

@@ -1,6 +1,6 @@
 ghost use Rattle.std.specs.Prelude.{◌≡◌, ◌*◌, ◌<◌, ◌≤◌, IfSome};
 ghost use Rattle.strand_asm_lines.specs.Line.{HasOperandRegister};
-ghost use Rattle.strand_asm.specs.Operands.{register, number, below, signed, even, wrapped};
+ghost use Rattle.strand_asm.specs.Operands.{register, number, natural_below, signed, even, wrapped};
 
 use strand_asm_lines::Operand;
 
@@ -30,7 +30,7 @@ pub(crate) fn number(operand: &Operand) -> i128
 
 /// A number below a bound.
 pub(crate) fn below(bound: u32, z: i128) -> Option<u32>
-    ensures { result ≡ below bound z }
+    ensures { result ≡ natural_below bound z }
 {
     if 0 <= z && z < i128::from(bound) {
         Some(z as u32)

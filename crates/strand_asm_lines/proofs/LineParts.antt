@@ -1,17 +1,9 @@
--- Serves clause gives of read_line, by body and labelled: steps of reading, one after the other.
-use Rattle.std.proofs.Common.{◌≡◌, ℕ, ◌<◌, List, [], ◌∷◌, length, None, Result, Ok, Err, refl, arith}
+-- Serves clause gives of read_line, by body and labelled: the body by its word, and a label by its pieces.
+use Rattle.std.proofs.Common.{◌≡◌, ℕ, ◌<◌, List, [], ◌∷◌, length, None, Ok, refl, arith}
 use Rattle.std.specs.Option.{ok_or}
-use Rattle.strand_asm_lines.specs.Line.{◌>>=◌, GivesLine, head_of, directive_of, body_by, labelled}
-use Rattle.strand_asm_lines.specs.declared.fault.LineKind.{LineKind}
+use Rattle.strand_asm_lines.specs.Line.{◌>>=◌, head_of, directive_of, body_by, labelled}
 use Rattle.strand_asm_lines.specs.declared.fault.LineKind.TheVariants.{UnknownName}
-use Rattle.strand_asm_lines.specs.declared.fault.LineError.{LineError}
-use Rattle.strand_asm_lines.specs.declared.fault.LineError.TheVariants.{Fault, OutOfMemory}
 use Rattle.strand_asm_lines.specs.declared.line.Body.TheVariants.{Empty}
-
--- where a step fails, all of it does
-pub gives_on : {A B : Type 0} (line : ℕ) (e : LineError) (read : Result A LineKind) (f : A → Result B LineKind) → GivesLine {X = A} line (Err e) read → GivesLine {X = B} line (Err e) (read >>= f)
-gives_on line (Fault fault) read f h = (rw h.0 refl, h.1)
-gives_on line OutOfMemory read f h = tt
 
 pub body_none : (word rest : List ℕ) → length word ≡ 0 → body_by word rest ≡ Ok Empty
 unfolding body_by

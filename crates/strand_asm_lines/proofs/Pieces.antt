@@ -1,14 +1,12 @@
 -- Serves clause gives of read_line: pieces between separators, and the first place that passes.
-use Rattle.std.proofs.Common.{◌≡◌, ℕ, zero, suc, ◌+◌, ◌<◌, ◌≤◌, Bool, true, false, cond, eqb, ltb, List, [], ◌∷◌, length, get_or, take, drop, Some, None, refl, sym, ap, ◌∙◌, arith, inl, inr}
+use Rattle.std.proofs.Common.{◌≡◌, ℕ, zero, suc, ◌+◌, ◌<◌, Bool, true, false, cond, eqb, List, [], ◌∷◌, length, get_or, take, drop, Some, None, refl, sym, ap, arith}
 use Rattle.std.specs.Prelude.{position, count_by}
 use Rattle.std.specs.List.{position_or_len}
 use Rattle.std.proofs.lemmas.List.{drop_all}
 use Rattle.std.proofs.lemmas.List.Quantifiers.{position-Some}
-use Rattle.std.proofs.lemmas.Bool.{cases_lt, lt-ltb}
-use Rattle.std.proofs.lemmas.Option.{none-some}
 use Rattle.std.proofs.lemmas.List.Sums.{sum_by-cons}
 use Rattle.strand_base.specs.Text.{onto_first}
-use Rattle.strand_base.proofs.LinesAndWords.{FailsBelow, none_passes}
+use Rattle.strand_base.proofs.LinesAndWords.{FailsBelow, first_place, none_passes, past_place}
 use Rattle.strand_asm_lines.specs.Bytes.{pieces, from_first}
 use Rattle.strand_asm_lines.specs.Token.{opened, closed}
 
@@ -46,35 +44,15 @@ length_pieces separator [] = refl
 length_pieces separator (b ∷ bs) = rw (sum_by-cons (λ c. cond (eqb c separator) 1 0) b bs) (split_length (eqb b separator) b (count_by (λ c. eqb c separator) bs) (pieces separator bs) (length_pieces separator bs))
 
 -- the first place that passes
-is_place : (b : Bool) (n at : ℕ) → Some at ≡ cond b (Some n) None → at ≡ n
-is_place true n at e = cc
-is_place false n at e = absurd cc
-
-past_place : (n len : ℕ) → None ≡ cond (ltb n len) (Some n) None → len ≤ n
-past_place n len e =
-    elim (cases_lt n len) [
-      | inl below ↦ let t : ltb n len ≡ true = lt-ltb _ _ below in absurd (none-some n (e ∙ rw t refl))
-      | inr past ↦ past
-    ]
-
-place_at : (p : ℕ → Bool) (s : List ℕ) (at : ℕ) → Some at ≡ position p s → at ≡ position_or_len p s
-place_at p s at e = is_place (ltb (position_or_len p s) (length s)) (position_or_len p s) at e
-
 pub from_at : (p : ℕ → Bool) (s : List ℕ) (at : ℕ) → Some at ≡ position p s → drop at s ≡ from_first p s
 unfolding from_first
-from_at p s at e = ap (λ (n : ℕ). drop n s) (place_at p s at e)
+from_at p s at e = ap (λ (n : ℕ). drop n s) (first_place p s at e)
 
 pub from_none : (p : ℕ → Bool) (s : List ℕ) → None ≡ position p s → [] ≡ from_first p s
 unfolding from_first
 from_none p s e = sym (drop_all (position_or_len p s) s (past_place (position_or_len p s) (length s) e))
 
--- lists that go on
-pub get_at : (xs : List (List ℕ)) (k : ℕ) (y : List ℕ) (ys : List (List ℕ)) → drop k xs ≡ y ∷ ys → get_or xs k [] ≡ y
-get_at [] zero y ys e = absurd cc
-get_at [] (suc k) y ys e = absurd cc
-get_at (x ∷ xs) zero y ys e = cc
-get_at (x ∷ xs) (suc k) y ys e = get_at xs k y ys e
-
+-- a list that ends
 pub get_past : (xs : List (List ℕ)) (k place : ℕ) (y : List ℕ) → drop k xs ≡ y ∷ [] → k < place → get_or xs place [] ≡ []
 get_past [] k place y e lt = refl
 get_past (x ∷ xs) k zero y e lt = absurd (omega arith)

@@ -7,7 +7,7 @@ use Rattle.std.proofs.lemmas.Bool.Decides.{nat_tests}
 use lib.Chars.{codes}
 use Rattle.strand_base.specs.Text.{words_of}
 use Rattle.strand_asm_lines.specs.Bytes.{lone, operand_texts, operand_at}
-use Rattle.strand_asm_lines.specs.Token.{numbered, named, numbered_register, unless_named, register_of, number_of, name_of, short_number, bracketed, offset_of}
+use Rattle.strand_asm_lines.specs.Token.{register_by_letter, named, numbered_register, unless_named, register_of, number_of, name_of, short_number, bracketed, offset_of}
 use Rattle.strand_asm_lines.specs.Table.{form_of, due_count}
 use Rattle.strand_asm_lines.specs.Line.{◌>>=◌, in_word, unless_number, target_of, memory_of, operand_of, operands_counted, head_of, space_of, instruction_of, directive_of, body_by, HasOperandRegister, HasRegistersOf}
 use Rattle.strand_asm_lines.specs.declared.fault.LineKind.{LineKind}
@@ -37,7 +37,7 @@ below_if : (b : Bool) (x y : Option ℕ) → Below x → Below y → Below (cond
 below_if true x y p q = p
 below_if false x y p q = q
 
-numbered_below : (letter n : ℕ) → Below (numbered letter n)
+numbered_below : (letter n : ℕ) → Below (register_by_letter letter n)
 numbered_below letter n r e = grind (arith, nat_tests)
 
 named_below : (w : List ℕ) → Below (named w)
@@ -55,7 +55,7 @@ below_then (Some a) f p = p a
 
 numbered_register_below : (w : List ℕ) → Below (numbered_register w)
 unfolding numbered_register
-numbered_register_below w = below_then (short_number (drop 1 w)) (λ n. numbered (slice_index w 0) n) (λ n. numbered_below (slice_index w 0) n)
+numbered_register_below w = below_then (short_number (drop 1 w)) (λ n. register_by_letter (slice_index w 0) n) (λ n. numbered_below (slice_index w 0) n)
 
 unless_named_below : (x : Option ℕ) (w : List ℕ) → Below x → Below (unless_named x w)
 unless_named_below None w p = numbered_register_below w

@@ -123,12 +123,12 @@ labelled (rest ∷ []) = Some (None, rest)
 labelled (front ∷ rest ∷ []) = if is_name (after_blanks front) then Some (Some (after_blanks front), rest) else None
 labelled (front ∷ rest ∷ more ∷ pieces) = None
 
-unfoldable pub parts_of : List ℕ → Option (Option (List ℕ) × List ℕ)
-parts_of content = if list_all is_plain content then labelled (pieces 58 content) else None
+unfoldable pub line_parts : List ℕ → Option (Option (List ℕ) × List ℕ)
+line_parts content = if list_all is_plain content then labelled (pieces 58 content) else None
 
 unfoldable pub line_of : List ℕ → Result Line LineKind
 line_of text = do
-  parts ← ok_or (parts_of (content_of text)) BadToken
+  parts ← ok_or (line_parts (content_of text)) BadToken
   body ← body_of parts.1
   Ok (record { label = parts.0; body = body })
 

@@ -40,8 +40,8 @@ abbrev pub short_number : List ℕ → Option ℕ
 short_number w = if length w == 1 then digit_of (slice_index w 0) else (if length w == 2 then two_digits (slice_index w 0) (slice_index w 1) else None)
 
 -- the registers x0 to x31, a0 to a7 (x10 to x17), s0, s1 (x8, x9), s2 to s11 (x18 to x27), t0 to t2 (x5 to x7), t3 to t6 (x28 to x31)
-abbrev pub numbered : ℕ → ℕ → Option ℕ
-numbered letter n = if letter == 120 then (if nat_lt n 32 then Some n else None)
+abbrev pub register_by_letter : ℕ → ℕ → Option ℕ
+register_by_letter letter n = if letter == 120 then (if nat_lt n 32 then Some n else None)
     else (if letter == 97 then (if nat_lt n 8 then Some (10 + n) else None)
     else (if letter == 115 then (if nat_lt n 2 then Some (8 + n) else (if nat_lt n 12 then Some (16 + n) else None))
     else (if letter == 116 then (if nat_lt n 3 then Some (5 + n) else (if nat_lt n 7 then Some (25 + n) else None)) else None)))
@@ -54,7 +54,7 @@ named w = if bytes_eq w (codes "zero") then Some 0 else (if bytes_eq w (codes "r
 unfoldable pub numbered_register : List ℕ → Option ℕ
 numbered_register w = do
   n ← short_number (drop 1 w)
-  numbered (slice_index w 0) n
+  register_by_letter (slice_index w 0) n
 
 abbrev pub unless_named : Option ℕ → List ℕ → Option ℕ
 unless_named (Some n) w = Some n

@@ -3,7 +3,7 @@ ghost use Rattle.std.specs.Option.{option_map};
 ghost use Rattle.strand_asm_lines.specs.Table.{form_of};
 ghost use Rattle.strand_asm_lines.specs.Bytes.{pieces, operand_texts};
 ghost use Rattle.strand_asm_lines.specs.Token.{is_name};
-ghost use Rattle.strand_asm_lines.specs.Line.{operands_counted, head_of, instruction_of, directive_of, body_by, body_of, labelled, parts_of, line_of, HasRegisters, GivesLine};
+ghost use Rattle.strand_asm_lines.specs.Line.{operands_counted, head_of, instruction_of, directive_of, body_by, body_of, labelled, line_parts, line_of, HasRegisters, GivesLine};
 
 use crate::bytes::{
     after_blanks, are_plain, comma_count, cut, has_empty, operand_at, split_at_blank,
@@ -179,9 +179,10 @@ fn labelled(text: &[u8]) -> Option<(Option<&[u8]>, &[u8])>
     }
 }
 
-#[tactic(auto, unfolding(crate::specs::Line::parts_of))]
+#[tactic(auto, unfolding(crate::specs::Line::line_parts))]
 fn parts(text: &[u8]) -> Option<(Option<&[u8]>, &[u8])>
-    ensures parts { option_map (λ x. (option_map (λ n. n.now) x.0, x.1.now)) result ≡ parts_of text.now }
+    ensures parts { option_map (λ x. (option_map (λ n. n.now) x.0, x.1.now)) result
+        ≡ line_parts text.now }
     ensures name { IfSome result (λ x. IfSome x.0 (λ n. IsTrue (is_name n.now))) }
 {
     if are_plain(text) {

@@ -1,7 +1,7 @@
 ghost use Rattle.std.specs.Prelude.{◌≡◌, pos, neg_ℤ};
 ghost use Rattle.std.specs.List.{list_all};
 ghost use Rattle.std.specs.Option.{option_map};
-ghost use Rattle.strand_asm_lines.specs.Token.{is_name_start, is_name_byte, is_name, digit_of, two_digits, short_number, numbered, named, numbered_register, register_of, negative_of, number_of, bracketed, offset_of};
+ghost use Rattle.strand_asm_lines.specs.Token.{is_name_start, is_name_byte, is_name, digit_of, two_digits, short_number, register_by_letter, named, numbered_register, register_of, negative_of, number_of, bracketed, offset_of};
 
 use crate::bytes::cut;
 use strand_base::{read_decimal, read_hex};
@@ -70,7 +70,7 @@ fn short_number(text: &[u8]) -> Option<u8>
 }
 
 fn numbered(letter: u8, n: u8) -> Option<u8>
-    ensures { result ≡ numbered letter n }
+    ensures { result ≡ register_by_letter letter n }
 {
     if letter == b'x' {
         if n < 32 { Some(n) } else { None }

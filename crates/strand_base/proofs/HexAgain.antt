@@ -1,5 +1,5 @@
--- Serves clause again of print_hex16: sixteen printed hexadecimal digits are read again.
-use Rattle.std.proofs.Common.{◌≡◌, ℕ, zero, suc, ◌+◌, ◌*◌, ◌/◌, ◌%◌, ◌^◌, ◌<◌, true, false, not, ltb, List, [], ◌∷◌, length, None, Ok, refl, ap, ◌∙◌, arith}
+-- Serves clause again of print_hex16 and of list: printed hexadecimal digits are read again.
+use Rattle.std.proofs.Common.{◌≡◌, ℕ, zero, suc, ◌+◌, ◌*◌, ◌/◌, ◌%◌, ◌^◌, ◌<◌, true, false, not, ltb, List, [], ◌∷◌, length, None, Ok, refl, sym, ap, ◌∙◌, arith}
 use Rattle.std.specs.Prelude.{position}
 use Rattle.std.specs.List.{position_or_len}
 use Rattle.std.specs.Char.{digit_value, is_ascii_hexdigit}
@@ -12,11 +12,11 @@ use Rattle.strand_base.specs.Number.{hexadecimal_of}
 use Rattle.strand_base.specs.Hexadecimal.{hex_digit, hex16}
 
 -- the lowest k digits
-abbrev low_digits : ℕ → ℕ → List ℕ
+abbrev pub low_digits : ℕ → ℕ → List ℕ
 low_digits n zero = []
 low_digits n (suc k) = hex_digit (n / 2 ^ (4 * k) % 16) ∷ low_digits n k
 
-all_sixteen : (n : ℕ) → hex16 n ≡ low_digits n 16
+pub all_sixteen : (n : ℕ) → hex16 n ≡ low_digits n 16
 unfolding hex16
 all_sixteen n = refl
 
@@ -32,7 +32,7 @@ one_digit n p =
     rw (value_again (n / p % 16) low, ← div-div-eq-div-mul n p 16) (div-add-mod' (n / p) 16)
 
 -- four more bits
-next_power : (k : ℕ) → 2 ^ (4 * suc k) ≡ 2 ^ (4 * k) * 16
+pub next_power : (k : ℕ) → 2 ^ (4 * suc k) ≡ 2 ^ (4 * k) * 16
 next_power k =
     let four : 4 * suc k ≡ suc (suc (suc (suc (4 * k)))) = omega arith in
     let m = 4 * k in
@@ -42,11 +42,6 @@ low_value : (n k : ℕ) → digits_value_after 16 (n / 2 ^ (4 * k)) (low_digits 
 low_value n zero = div-one n
 low_value n (suc k) =
     rw (next_power k) (ap (λ (v : ℕ). digits_value_after 16 v (low_digits n k)) (one_digit n (2 ^ (4 * k))) ∙ low_value n k)
-
-value_16 : (n : ℕ) → n < 2 ^ 64 → digits_value 16 (hex16 n) ≡ n
-value_16 n fits =
-    let none : 0 ≡ n / 2 ^ 64 = omega arith in
-    ap (digits_value 16) (all_sixteen n) ∙ ap (λ (v : ℕ). digits_value_after 16 v (low_digits n 16)) none ∙ low_value n 16
 
 all_digits : (n k : ℕ) → position_or_len (λ c. not (is_ascii_hexdigit c)) (low_digits n k) ≡ length (low_digits n k)
 all_digits n zero = refl
@@ -67,9 +62,11 @@ read_again (c ∷ cs) n lt all e fits =
     let small : ltb (digits_value 16 (c ∷ cs)) (2 ^ 64) ≡ true = lt-ltb _ _ (omega arith) in
     rw (all, small) (ap (λ (m : ℕ). Ok m) e)
 
--- the printed digits are read again
+-- all digits of a number are read again
+pub low_again : (n k : ℕ) → n < 2 ^ 64 → n / 2 ^ (4 * suc k) ≡ 0 → hexadecimal_of (low_digits n (suc k)) ≡ Ok n
+low_again n k fits high =
+    read_again (low_digits n (suc k)) n (omega arith) (none_bad (low_digits n (suc k)) (all_digits n (suc k)))
+    (ap (λ (v : ℕ). digits_value_after 16 v (low_digits n (suc k))) (sym high) ∙ low_value n (suc k)) fits
+
 pub hex_again : (n : ℕ) → n < 2 ^ 64 → hexadecimal_of (hex16 n) ≡ Ok n
-hex_again n fits =
-    let some : 0 < length (hex16 n) = rw (all_sixteen n) (omega arith) in
-    let found : position_or_len (λ c. not (is_ascii_hexdigit c)) (hex16 n) ≡ length (hex16 n) = rw (all_sixteen n) (all_digits n 16) in
-    read_again (hex16 n) n some (none_bad (hex16 n) found) (value_16 n fits) fits
+hex_again n fits = rw (all_sixteen n) (low_again n 15 fits (omega arith))

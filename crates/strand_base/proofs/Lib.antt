@@ -5,5 +5,6 @@ pub mod LinesAndWords
 pub mod DigitValues
 pub mod TextAgain
 pub mod HexAgain
+pub mod LittleEndian
 pub mod AppendsFront
 pub mod TakesAll

@@ -1,5 +1,6 @@
--- Serves next_line, content and next_word: lines and words, from the place where they end.
-use Rattle.std.proofs.Common.{◌≡◌, ℕ, zero, suc, ◌+◌, ◌-◌, min, ◌<◌, ◌≤◌, Bool, true, false, cond, eqb, ltb, not, List, [], ◌∷◌, ◌++◌, ◌≢◌, length, get_or, take, drop, Some, None, refl, sym, ap, ◌∙◌, arith, inl, inr}
+-- Serves next_line, content and next_word: lines and words, from the place where they end; and, by the first place that passes,
+-- read_line and print_instr.
+use Rattle.std.proofs.Common.{◌≡◌, ℕ, zero, suc, ◌+◌, ◌-◌, min, ◌<◌, ◌≤◌, Bool, true, false, cond, eqb, ltb, not, List, [], ◌∷◌, ◌≢◌, length, get_or, take, drop, Some, None, refl, sym, ap, ◌∙◌, arith, inl, inr}
 use Rattle.std.specs.Prelude.{position, slice_range}
 use Rattle.std.specs.List.{position_or_len, before_first}
 use Rattle.std.proofs.lemmas.List.{drop-drop, drop_all, take_rest, length-drop, take_all, get_or-drop}
@@ -80,7 +81,11 @@ is_place : (b : Bool) (n at : ℕ) → Some at ≡ cond b (Some n) None → at �
 is_place true n at e = cc
 is_place false n at e = absurd cc
 
-past_place : (n len : ℕ) → None ≡ cond (ltb n len) (Some n) None → len ≤ n
+-- the place that 'position' finds, as a number
+pub first_place : (p : ℕ → Bool) (s : List ℕ) (at : ℕ) → Some at ≡ position p s → at ≡ position_or_len p s
+first_place p s at e = is_place (ltb (position_or_len p s) (length s)) (position_or_len p s) at e
+
+pub past_place : (n len : ℕ) → None ≡ cond (ltb n len) (Some n) None → len ≤ n
 past_place n len e =
     elim (cases_lt n len) [
       | inl below ↦ none_not_some (ltb n len) n _ (lt-ltb _ _ below) (sym e)
@@ -116,12 +121,6 @@ pub words_whole : (s : List ℕ) → 0 < length s → FailsBelow is_blank (lengt
 unfolding words_of pieces_of
 words_whole [] lt below = absurd (omega arith)
 words_whole (b ∷ bs) lt below = rw (pieces_whole (b ∷ bs) below) refl
-
-pub return_cut : (s : List ℕ) → without_return_of (s ++ 13 ∷ []) ≡ s
-unfolding without_return_of
-return_cut [] = refl
-return_cut (b ∷ []) = refl
-return_cut (b ∷ c ∷ bs) = ap (λ (l : List ℕ). b ∷ l) (return_cut (c ∷ bs))
 
 pub return_none : (s : List ℕ) → true ≡ eqb (length s) 0 → s ≡ without_return_of s
 unfolding without_return_of

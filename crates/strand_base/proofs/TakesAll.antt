@@ -1,17 +1,12 @@
 -- Serves clauses ok and err of put_all: what a sink has taken, over several calls.
-use Rattle.std.proofs.Common.{ℕ, ◌+◌, ◌≤◌, ◌<◌, List, [], ◌++◌, length, take, drop, append_assoc, append-nil, sym, refl, ◌∙◌, ap, arith, length-drop}
+use Rattle.std.proofs.Common.{ℕ, ◌+◌, ◌≤◌, ◌<◌, List, ◌++◌, length, take, drop, append_assoc, ◌∙◌, ap, arith, length-drop}
 use Rattle.std.proofs.lemmas.List.{length-take}
 use Rattle.std.proofs.Math.Seq.{take-add}
 use Rattle.std.specs.Prelude.{None, Some, Ok}
 use Rattle.std.specs.declared.option.Option.{Option}
-use Rattle.strand_base.proofs.Counts.{counted_again, counted_none}
+use Rattle.strand_base.proofs.Counts.{counted_again}
 use Rattle.strand_base.specs.Counts.{next}
 use Rattle.strand_base.specs.SinkSeen.{SinkSeen, Takes, TakesAll, TakesFront}
-
--- nothing was taken
-pub Takes-nothing : (taken : Option (List ℕ)) → Takes taken taken []
-Takes-nothing None = tt
-Takes-nothing (Some xs) = sym (append-nil xs)
 
 -- one piece after another
 pub Takes-append : (first second third : Option (List ℕ)) (xs ys : List ℕ) → Takes first second xs → Takes second third ys → Takes first third (xs ++ ys)
@@ -19,9 +14,6 @@ Takes-append first second None xs ys before after = tt
 Takes-append first None (Some zs) xs ys before after = absurd after
 Takes-append None (Some zs) (Some ws) xs ys before after = absurd before
 Takes-append (Some vs) (Some zs) (Some ws) xs ys before after = after ∙ ap (λ l. l ++ ys) before ∙ append_assoc vs xs ys
-
-pub takes_none : (sink : SinkSeen) → TakesAll sink sink []
-takes_none sink = record { taken = Takes-nothing sink.taken; quiet = refl; puts = 0; made = sym (counted_none sink.puts); few = omega arith; some = λ h. absurd (omega (arith, h)) }
 
 -- one put more, of the rest of the text
 pub takes_more : {E : Type 0} (before middle now : SinkSeen) (text : List ℕ) (at count : ℕ) → at < length text

@@ -11,7 +11,7 @@ use Rattle.std.proofs.lemmas.Fmt.{decimal_is_IsNumeral}
 use Rattle.std.proofs.lemmas.Str.Parse.{digit_from_value}
 use Rattle.std.proofs.lemmas.List.{take_all}
 use Rattle.strand_base.specs.Number.{decimal_of}
-use Rattle.strand_base.specs.Text.{lines_of, without_return_of, content_of, is_blank, pieces_of, words_of, numbered, text_lines, spaced, joined_words, text_of, IsPlainWord, IsPlainLine}
+use Rattle.strand_base.specs.Text.{lines_of, without_return_of, content_of, is_blank, pieces_of, words_of, numbered_lines, text_lines, spaced, joined_words, text_of, IsPlainWord, IsPlainLine}
 
 -- a byte of a printed line: no newline, no carriage return, no '#'
 abbrev InLine : ℕ → Type 0
@@ -89,8 +89,8 @@ words_again ((b ∷ w) ∷ v ∷ ws) p =
 line_again : (ws : List (List ℕ)) → AllByRecursion IsPlainWord ws → words_of (content_of (joined_words ws)) ≡ ws
 line_again ws p = ap words_of (content_same (joined_words ws) (in_line_joined ws p)) ∙ words_again ws p
 
-lines_again : (n : ℕ) (wss : List (List (List ℕ))) → AllByRecursion IsPlainLine wss → numbered n (lines_of (text_of wss)) ≡ enumerate_from n wss
-unfolding numbered lines_of
+lines_again : (n : ℕ) (wss : List (List (List ℕ))) → AllByRecursion IsPlainLine wss → numbered_lines n (lines_of (text_of wss)) ≡ enumerate_from n wss
+unfolding numbered_lines lines_of
 lines_again n [] p = refl
 lines_again n ([] ∷ wss) p = absurd p.0
 lines_again n ((w ∷ ws) ∷ wss) p =

@@ -9,5 +9,6 @@ pub mod ModuleSeen
 pub mod Places
 pub mod Text
 pub mod Number
+pub mod LittleEndian
 pub mod Puts
 pub mod Hexadecimal

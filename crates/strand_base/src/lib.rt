@@ -1,5 +1,5 @@
 //! What everything stands on: the world outside as traits, with objects in memory and the real
-//! ones, and texts as lines, words and numbers.
+//! ones, texts as lines, words and numbers, and numbers in bytes.
 #![tactic(auto)]
 
 mod decimal;
@@ -13,6 +13,7 @@ mod host_sink;
 mod kept_bytes;
 mod limits;
 mod lines;
+mod little_endian;
 mod memory_files;
 mod memory_sink;
 mod module;
@@ -38,6 +39,7 @@ pub use limits::{
     MOST_QUEUE, MOST_RING, MOST_SETS, MOST_STEPS, MOST_WAYS,
 };
 pub use lines::{LineSpan, content, next_line, next_word};
+pub use little_endian::{put_u32s, put_u64s, read_u32s, read_u64s, u32_at};
 pub use memory_files::MemoryFiles;
 pub use memory_sink::MemorySink;
 pub use module::{ModuleFailed, PmModule};

@@ -5,6 +5,7 @@ use std::cmp::min;
 use std::fmt::Display;
 use std::io::ErrorKind;
 use std::process::Abort;
+use std::test::Fail;
 use std::{fs, io};
 
 #[test]
@@ -24,6 +25,23 @@ fn numbers_are_read(rt: HostRuntime) {
         assert_eq!(rt; read_decimal(text.as_bytes()), decimal, "{text}");
         assert_eq!(rt; read_hex(text.as_bytes()), hex, "{text}");
     }
+}
+
+#[test]
+fn numbers_in_bytes_have_the_low_byte_first(rt: HostRuntime) -> Result<(), Fail> {
+    let bytes = [0x78, 0x56, 0x34, 0x12, 0xef, 0xcd, 0xab, 0x90];
+    assert_eq!(rt; u32_at(&bytes, 4), 0x90ab_cdef);
+    let halves = read_u32s(rt.alloc(), &bytes, 2).ok().ok_or("memory")?;
+    assert_eq!(rt; halves.as_slice(), [0x1234_5678, 0x90ab_cdef].as_slice());
+    let whole = read_u64s(rt.alloc(), &bytes, 1).ok().ok_or("memory")?;
+    assert_eq!(rt; whole.as_slice(), [0x90ab_cdef_1234_5678].as_slice());
+    let mut into = Vec::new(rt.alloc());
+    put_u32s(&mut into, &halves).ok().ok_or("memory")?;
+    assert_eq!(rt; into.as_slice(), bytes.as_slice());
+    into.clear();
+    put_u64s(&mut into, &whole).ok().ok_or("memory")?;
+    assert_eq!(rt; into.as_slice(), bytes.as_slice());
+    Ok(())
 }
 
 fn bad_digit(at: usize) -> Result<u64, NumberFault> {

@@ -53,8 +53,8 @@ accepted bs number word value epoch wait =
     record (with_list bs (current bs) (list_in bs (current bs) ++ record { number = number; word = word; value = value; epoch = epoch; wait = wait; stage = Buffered } ∷ [])) { number = Some number; epoch = Some epoch }
 
 -- the next strand begins
-abbrev pub begun : Buffers → Buffers
-begun bs = record bs { strand = bs.strand + 1; epoch = None }
+abbrev pub strand_begun : Buffers → Buffers
+strand_begun bs = record bs { strand = bs.strand + 1; epoch = None }
 
 -- the entry has come to this stage where it has this number
 abbrev pub with_stage : Stage → ℕ → Entry → Entry

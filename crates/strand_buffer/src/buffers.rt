@@ -1,6 +1,6 @@
 ghost use Rattle.std.specs.Prelude.{◌≡◌, ◌<◌, ◌≤◌, ◌^◌, ◌-◌, IfOk, IfSome, MatchOption, length, true};
 ghost use Rattle.strand_base.specs.declared.limits.TheConstants.{MOST_BUFFERS, MOST_RING};
-ghost use Rattle.strand_buffer.specs.Buffers.{IsEligible, IsSent, accepted, begun, can_begin, eligible_slot, empty_buffers, has_room, released, sent};
+ghost use Rattle.strand_buffer.specs.Buffers.{IsEligible, IsSent, accepted, strand_begun, can_begin, eligible_slot, empty_buffers, has_room, released, sent};
 
 use crate::Slot;
 use crate::ring::Ring;
@@ -95,7 +95,7 @@ impl StrandBuffers {
     pub fn begin(&mut self)
         requires empty { can_begin self.old ≡ true }
         requires strand { self.old.strand < 2 ^ 32 - 1 }
-        ensures { self.new ≡ begun self.old }
+        ensures { self.new ≡ strand_begun self.old }
     {
         self.strand += 1;
         self.epoch = None;

@@ -6,8 +6,8 @@ use Rattle.strand_exec.specs.Memory.{Memory, extents_of, with_word, word_in}
 use Rattle.strand_exec.specs.Plan.{is_data}
 
 -- the word at a place of a line
-abbrev pub word_at : ℕ → ℕ → ℕ
-word_at line place = LINE_BYTES * line + 8 * place
+abbrev pub line_word : ℕ → ℕ → ℕ
+line_word line place = LINE_BYTES * line + 8 * place
 
 -- a word of the memory, 0 outside its regions
 unfoldable pub word_or_zero : Memory → ℕ → ℕ
@@ -17,7 +17,7 @@ word_or_zero memory word = if is_data (extents_of memory) word then word_in memo
 abbrev pub put_below : Memory → ℕ → List ℕ → ℕ → Memory
 put_below memory line words zero = memory
 put_below memory line words (suc k) =
-    if is_data (extents_of memory) (word_at line k) then with_word (put_below memory line words k) (word_at line k) (slice_index words k) else put_below memory line words k
+    if is_data (extents_of memory) (line_word line k) then with_word (put_below memory line words k) (line_word line k) (slice_index words k) else put_below memory line words k
 
 -- the memory with the words of a line put back
 unfoldable pub with_line : Memory → ℕ → List ℕ → Memory

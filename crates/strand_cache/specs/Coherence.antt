@@ -15,7 +15,7 @@ use Rattle.strand_cache.specs.declared.held_line.HeldLine.{HeldLine}
 use Rattle.strand_cache.specs.declared.change.Change.{Change}
 use Rattle.strand_cache.specs.declared.change.Change.TheVariants.{Read, Merge}
 use Rattle.strand_cache.specs.Copies.{is_changed, row_lines, row_of}
-use Rattle.strand_cache.specs.Backing.{word_at, word_or_zero, with_line}
+use Rattle.strand_cache.specs.Backing.{line_word, word_or_zero, with_line}
 
 -- a row holds the copy
 abbrev pub Among : HeldLine → List HeldLine → Type 0
@@ -81,7 +81,7 @@ pub record IsSetAccess (core word ways : ℕ) (change : Change) (before after : 
 -- the copy that a core goes on with: its own, else one with the backing words
 pub record Fetched (line : ℕ) (found : Option HeldLine) (backing : Memory) (held : HeldLine) : Type 0 where
   pub kept : (own : HeldLine) → found ≡ Some own → held ≡ own
-  pub fresh : found ≡ None → (held.line ≡ line) × (held.changed ≡ false) × ((place : ℕ) → place < LINE_WORDS → slice_index held.words place ≡ word_or_zero backing (word_at line place))
+  pub fresh : found ≡ None → (held.line ≡ line) × (held.changed ≡ false) × ((place : ℕ) → place < LINE_WORDS → slice_index held.words place ≡ word_or_zero backing (line_word line place))
 
 -- a copy after an access to the word at a place
 pub record CopyAfter (change : Change) (place : ℕ) (before after : HeldLine) : Type 0 where

@@ -6,16 +6,16 @@ use Rattle.strand_cache.specs.Accesses.{LineAccess, line_at}
 use Rattle.strand_cache.specs.Hits.{Shape, is_last, hit}
 
 -- the lines but for one
-abbrev pub without : ℕ → List ℕ → List ℕ
-without line lines = filter (λ other. not (line == other)) lines
+abbrev pub without_line : ℕ → List ℕ → List ℕ
+without_line line lines = filter (λ other. not (line == other)) lines
 
 -- a core's lines of one set after an access: its own line comes to the front and the last past `ways` is dropped, and a
 -- line that another core stores to is lost
 abbrev pub lines_after : Shape → LineAccess → ℕ → ℕ → List ℕ → List ℕ
 lines_after shape x core set lines =
     if not (x.line % shape.sets == set) then lines else
-    if x.core == core then take shape.ways (x.line ∷ without x.line lines) else
-    if x.stores then without x.line lines else lines
+    if x.core == core then take shape.ways (x.line ∷ without_line x.line lines) else
+    if x.stores then without_line x.line lines else lines
 
 -- the core's next access to the line, put at the end of the list, would hit
 abbrev pub would_hit : Shape → ℕ → ℕ → List LineAccess → Bool

@@ -32,14 +32,14 @@ CachesStand seen xs = StandsFor (shape_seen seen) seen.cores (lines_seen seen) x
 abbrev pub one_more : ℕ → ℕ
 one_more n = min (n + 1) (2 ^ 64 - 1)
 
-abbrev pub counted : Bool → Counts → Counts
-counted hits counts = if hits then record { hits = one_more counts.hits; misses = counts.misses } else record { hits = counts.hits; misses = one_more counts.misses }
+abbrev pub access_counted : Bool → Counts → Counts
+access_counted hits counts = if hits then record { hits = one_more counts.hits; misses = counts.misses } else record { hits = counts.hits; misses = one_more counts.misses }
 
-abbrev pub no_counts : Counts
-no_counts = record { hits = 0; misses = 0 }
+abbrev pub none_counted : Counts
+none_counted = record { hits = 0; misses = 0 }
 
 abbrev pub counts_seen : Seen → ℕ → Counts
-counts_seen seen core = slice_index_or seen.counts core no_counts
+counts_seen seen core = slice_index_or seen.counts core none_counted
 
 -- for every list for which the caches stand: the access hits by the rule, and the caches then stand for the longer list
 abbrev pub IsAccess : Seen → Seen → ℕ → ℕ → Change → Bool → Type 0
@@ -54,6 +54,6 @@ empty_caches cores sets ways volatile persistent = record {
   sets = sets;
   ways = ways;
   memory = record { volatile = volatile; persistent = persistent };
-  counts = replicate cores no_counts;
+  counts = replicate cores none_counted;
   lines = replicate sets (replicate cores []);
 }

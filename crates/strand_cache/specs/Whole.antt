@@ -18,17 +18,17 @@ abbrev pub owned_word : Option HeldLine → ℕ → ℕ → ℕ
 owned_word None place backing_word = backing_word
 owned_word (Some held) place backing_word = slice_index held.words place
 
-abbrev pub shown_in : List (List HeldLine) → Memory → ℕ → ℕ
-shown_in rows backing word = owned_word (owned (cache_line_of word) rows) (line_place word) (word_in backing word)
+abbrev pub flat_value_in : List (List HeldLine) → Memory → ℕ → ℕ
+flat_value_in rows backing word = owned_word (owned (cache_line_of word) rows) (line_place word) (word_in backing word)
 
-abbrev pub shown : ℕ → List (List (List HeldLine)) → Memory → ℕ → ℕ
-shown sets groups backing word = shown_in (group_of groups (cache_line_of word % sets)) backing word
+abbrev pub flat_value : ℕ → List (List (List HeldLine)) → Memory → ℕ → ℕ
+flat_value sets groups backing word = flat_value_in (group_of groups (cache_line_of word % sets)) backing word
 
 -- the flat memory: the backing words with the changed lines over them
 abbrev pub flat_memory : ℕ → List (List (List HeldLine)) → Memory → Memory
 flat_memory sets groups backing = record {
-  volatile = map (λ i. shown sets groups backing (VOLATILE_BASE + 8 * i)) (range_with_len 0 (length backing.volatile));
-  persistent = map (λ i. shown sets groups backing (PERSISTENT_BASE + 8 * i)) (range_with_len 0 (length backing.persistent));
+  volatile = map (λ i. flat_value sets groups backing (VOLATILE_BASE + 8 * i)) (range_with_len 0 (length backing.volatile));
+  persistent = map (λ i. flat_value sets groups backing (PERSISTENT_BASE + 8 * i)) (range_with_len 0 (length backing.persistent));
 }
 
 -- the caches keep together: each set's copies and the backing words stand for the flat memory
@@ -38,4 +38,4 @@ pub record IsWhole (cores sets ways : ℕ) (groups : List (List (List HeldLine))
   pub some_sets : 0 < sets
   pub some_ways : 0 < ways
   pub few_ways : ways ≤ MOST_WAYS
-  pub coheres : (set : ℕ) → set < sets → Coheres (extents_of backing) sets ways set (group_of groups set) backing (shown sets groups backing)
+  pub coheres : (set : ℕ) → set < sets → Coheres (extents_of backing) sets ways set (group_of groups set) backing (flat_value sets groups backing)

@@ -2,7 +2,7 @@ ghost use Rattle.std.specs.Prelude.{◌≡◌, ◌<◌, ◌^◌, ◌%◌, length
 ghost use Rattle.strand_cache.specs.declared.lines.TheConstants.{LINE_WORDS};
 ghost use Rattle.strand_exec.specs.Memory.{extents_of};
 ghost use Rattle.strand_exec.specs.Plan.{is_data};
-ghost use Rattle.strand_cache.specs.Backing.{with_line, word_at, word_or_zero, IsApart};
+ghost use Rattle.strand_cache.specs.Backing.{with_line, line_word, word_or_zero, IsApart};
 
 use crate::lines::{LINE_BYTES, LINE_WORDS};
 use strand_base::{PERSISTENT_BASE, VOLATILE_BASE};
@@ -33,7 +33,8 @@ fn word_or_zero(memory: &FlatMemory, word: u64) -> u64
 /// The words of a line. Those outside the regions are 0.
 pub(crate) fn line_words(memory: &FlatMemory, line: u64) -> [u64; LINE_WORDS]
     requires { line < 2 ^ 32 }
-    ensures { (k : ℕ) → k < LINE_WORDS → slice_index result k ≡ word_or_zero memory.now (word_at line k) }
+    ensures { (k : ℕ) → k < LINE_WORDS
+        → slice_index result k ≡ word_or_zero memory.now (line_word line k) }
 {
     let mut words = [0; LINE_WORDS];
     for k in 0..LINE_WORDS {

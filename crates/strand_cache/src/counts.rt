@@ -1,5 +1,5 @@
 ghost use Rattle.std.specs.Prelude.{◌≡◌};
-ghost use Rattle.strand_cache.specs.Seen.{counted};
+ghost use Rattle.strand_cache.specs.Seen.{access_counted};
 
 /// How many accesses of a core hit and missed. Each number stays at 2^64 - 1.
 #[derive(Clone, Copy, Debug, PartialEq, Eq)]
@@ -13,7 +13,7 @@ pub struct Counts {
 impl Counts {
     /// The counts after one more access.
     pub(crate) fn counted(self, hit: bool) -> Counts
-        ensures { result ≡ counted hit self }
+        ensures { result ≡ access_counted hit self }
     {
         if hit {
             Counts {

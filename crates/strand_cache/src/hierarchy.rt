@@ -4,7 +4,7 @@ ghost use Rattle.strand_base.specs.declared.limits.TheConstants.{MOST_MEMORY, CO
 ghost use Rattle.strand_exec.specs.Memory.{extents_of, word_in};
 ghost use Rattle.strand_exec.specs.Plan.{IsWord};
 ghost use Rattle.strand_cache.specs.Changes.{word_after, memory_after};
-ghost use Rattle.strand_cache.specs.Seen.{CachesStand, IsAccess, empty_caches, counted, counts_seen, shape_seen};
+ghost use Rattle.strand_cache.specs.Seen.{CachesStand, IsAccess, empty_caches, access_counted, counts_seen, shape_seen};
 
 use crate::access::Access;
 use crate::backing::{apart, persistent_words, volatile_words};
@@ -97,7 +97,8 @@ impl Hierarchy {
         ensures extents { extents_of self.new.memory ≡ extents_of self.old.memory }
         ensures shape { shape_seen self.new ≡ shape_seen self.old }
         ensures counts { self.new.counts
-            ≡ slice_set self.old.counts core (counted result.hit (counts_seen self.old core)) }
+            ≡ slice_set self.old.counts core
+            (access_counted result.hit (counts_seen self.old core)) }
         ensures access { IsAccess self.old self.new core word change result.hit }
     {
         apart(&self.backing);

@@ -7,7 +7,7 @@ ghost use Rattle.strand_cache.specs.declared.held_line.HeldLine.{HeldLine};
 ghost use Rattle.strand_cache.specs.Copies.{cleaned, is_changed, row_lines, others, row_of};
 ghost use Rattle.strand_cache.specs.Accesses.{cache_line_of};
 ghost use Rattle.strand_cache.specs.Coherence.{Among, Coheres, Fetched, IsBounded, put_back, IsSetAccess};
-ghost use Rattle.strand_cache.specs.Lists.{without};
+ghost use Rattle.strand_cache.specs.Lists.{without_line};
 
 use crate::access::Access;
 use crate::backing::{apart, line_words, put_line};
@@ -103,7 +103,7 @@ pub(crate) fn settle(
     ensures loads { stores ≡ false → (c : ℕ) → c ≢ core
         → row_lines (row_of rows.new c) ≡ row_lines (row_of rows.old c) }
     ensures takes { stores ≡ true → (c : ℕ) → c ≢ core
-        → row_lines (row_of rows.new c) ≡ without line (row_lines (row_of rows.old c)) }
+        → row_lines (row_of rows.new c) ≡ without_line line (row_lines (row_of rows.old c)) }
     ensures extents { extents_of backing.new ≡ extents_of backing.old }
     ensures words { (word : ℕ) → IsWord (extents_of backing.old) word → cache_line_of word ≢ line
         → word_in backing.new word ≡ word_in backing.old word }

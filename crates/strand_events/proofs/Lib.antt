@@ -1,3 +1,4 @@
+pub mod TestLaws
 pub mod LongerTrace
 pub mod PersistOrder
 pub mod StrandAndEpoch

@@ -7,7 +7,7 @@ use Rattle.strand_inputs.specs.declared.mode.Mode.TheVariants.{Strict, Epoch, St
 use Rattle.strand_events.specs.declared.event.Event.{Event}
 use Rattle.strand_base.specs.Counting.{count_below}
 use Rattle.strand_events.specs.Trace.{core_in, word_in, passes, is_access, is_store, is_barrier, is_join, is_new_strand, is_barrier_or_join, core_at, word_at, event_is, core_event_is, strand_number, same_strand, epoch}
-use Rattle.strand_events.specs.Order.{conflicts, stands_between, core_orders, directly_before}
+use Rattle.strand_events.specs.Order.{stands_between, core_orders, directly_before}
 use Rattle.strand_base.proofs.BelowBound.{get_more, any_agree, count_agree}
 
 module _ (t : List Event) (e : Event) where
@@ -38,9 +38,6 @@ module _ (t : List Event) (e : Event) where
   epoch_kept Strict i lt = ap (λ c. count_below i (core_event_is is_access c (t ++ e ∷ []))) (core_kept i lt) ∙ count_agree i (core_event_is is_access (core_at t i) (t ++ e ∷ [])) (core_event_is is_access (core_at t i) t) (λ k below. core_event_kept is_access (core_at t i) k (omega arith))
   epoch_kept Epoch i lt = strand_epoch_kept Epoch i lt
   epoch_kept Strand i lt = strand_epoch_kept Strand i lt
-
-  pub conflicts_kept : (a b : ℕ) → a < length t → b < length t → conflicts (t ++ e ∷ []) a b ≡ conflicts t a b
-  conflicts_kept a b lt lt' = cc (event_is_kept is_access a lt, event_is_kept is_access b lt', event_is_kept is_store a lt, event_is_kept is_store b lt', word_kept a lt, word_kept b lt')
 
   pub between_kept : (test : Event → Bool) (core a b : ℕ) → b ≤ length t → stands_between test core (t ++ e ∷ []) a b ≡ stands_between test core t a b
   between_kept test core a b le = any_agree b (λ k. nat_lt a k && core_event_is test core (t ++ e ∷ []) k) (λ k. nat_lt a k && core_event_is test core t k) (λ k below. ap (λ x. nat_lt a k && x) (core_event_kept test core k (omega arith)))

@@ -2,23 +2,16 @@
 -- A core's counts of events number its strands and epochs.
 use Rattle.std.proofs.Common.{◌≡◌, ℕ, suc, ◌+◌, ◌<◌, ◌≤◌, Bool, true, false, ◌&&◌, inl, inr, List, [], ◌∷◌, ◌++◌, length, refl, sym, ap, ◌∙◌, arith, add-one}
 use Rattle.std.specs.Prelude.{◌==◌, if◌then◌else◌}
-use Rattle.std.proofs.lemmas.Bool.{cases_Bool, eq-eqb, eqb-true, ne_eqb}
+use Rattle.std.proofs.lemmas.Bool.{cases_Bool, and_right, eq-eqb, eqb-true, ne_eqb}
 use Rattle.strand_base.specs.Counting.{count_below}
 use Rattle.strand_base.proofs.BelowBound.{get_last, count_agree, count_mono, count_flat}
 use Rattle.strand_inputs.specs.declared.mode.Mode.{Mode}
 use Rattle.strand_inputs.specs.declared.mode.Mode.TheVariants.{Strict, Epoch, Strand}
 use Rattle.strand_events.specs.declared.event.Event.{Event}
 use Rattle.strand_events.specs.Trace.{passes, core_of, core_in, is_access, is_new_strand, is_barrier_or_join, core_at, event_is, core_event_is, strand_number, same_strand, epoch}
-use Rattle.strand_events.specs.EventCounts.{core_count, is_border, counts_below, counts_after, strand_in, epoch_in}
+use Rattle.strand_events.specs.EventCounts.{core_count, is_border, counts_below, counts_after, epoch_in}
 use Rattle.strand_events.proofs.LongerTrace.{core_event_kept}
-
-and_true : (b : Bool) → (b && true) ≡ b
-and_true true = refl
-and_true false = refl
-
-and_false : (b : Bool) → (b && false) ≡ false
-and_false true = refl
-and_false false = refl
+use Rattle.strand_events.proofs.TestLaws.{and_true}
 
 -- the second test decides whether the third is asked
 and_moved : (a b x y : Bool) → (b ≡ true → x ≡ y) → (a && (b && x)) ≡ ((a && b) && y)
@@ -26,12 +19,7 @@ and_moved false b x y h = refl
 and_moved true true x y h = h refl
 and_moved true false x y h = refl
 
--- the strand and the epoch of an event are those that its core's counts give
-pub strand_counted : (mode : Mode) (t : List Event) (i : ℕ) → strand_in mode (counts_below t (core_at t i) i) ≡ strand_number mode t i
-strand_counted Strict t i = refl
-strand_counted Epoch t i = refl
-strand_counted Strand t i = refl
-
+-- the epoch of an event is the one that its core's counts give
 pub epoch_counted : (mode : Mode) (t : List Event) (i : ℕ) → epoch_in mode (counts_below t (core_at t i) i) ≡ epoch mode t i
 epoch_counted Strict t i = refl
 epoch_counted Epoch t i = count_agree i (core_event_is is_barrier_or_join (core_at t i) t) (λ k. event_is is_barrier_or_join t k && same_strand Epoch t k i) (λ k lt. ap (λ b. event_is is_barrier_or_join t k && b) (sym (and_true (core_at t k == core_at t i))))
@@ -96,7 +84,7 @@ module _ (t : List Event) (e : Event) where
       count_flat 0 (suc n) (is_border core t' (suc n)) (omega arith) (λ k low lt.
       let upto : k ≤ n = omega arith in
       let fewer : core_count is_new_strand core t' k ≤ core_count is_new_strand core t' n = count_mono k n (core_event_is is_new_strand core t') upto in
-      ap (λ b. core_event_is is_barrier_or_join core t' k && b) (ne_eqb (core_count is_new_strand core t' k) (core_count is_new_strand core t' (suc n)) (λ even. absurd (omega (arith, even, more, here, fewer)))) ∙ and_false (core_event_is is_barrier_or_join core t' k))
+      and_right (core_event_is is_barrier_or_join core t' k) (core_count is_new_strand core t' k == core_count is_new_strand core t' (suc n)) (ne_eqb (core_count is_new_strand core t' k) (core_count is_new_strand core t' (suc n)) (λ even. absurd (omega (arith, even, more, here, fewer)))))
 
   own : (test : Event → Bool) → (test e && (core_of e == core_of e)) ≡ test e
   own test = ap (λ b. test e && b) (eq-eqb (core_of e) (core_of e) refl) ∙ and_true (test e)
@@ -117,7 +105,7 @@ module _ (t : List Event) (e : Event) where
   -- another core
   pub counts_other : (core : ℕ) → (core_of e == core) ≡ false → counts_below (t ++ e ∷ []) core (suc (length t)) ≡ counts_below t core (length t)
   counts_other core other =
-      let none : (test : Event → Bool) → (test e && (core_of e == core)) ≡ false = λ test. ap (λ b. test e && b) other ∙ and_false (test e) in
+      let none : (test : Event → Bool) → (test e && (core_of e == core)) ≡ false = λ test. and_right (test e) (core_of e == core) other in
       let one = rw (none is_access) at (count_next is_access core) in
       let two = rw (none is_new_strand) at (count_next is_new_strand core) in
       let three = rw (none is_barrier_or_join) at (count_next is_barrier_or_join core) in

@@ -84,6 +84,10 @@ event_is test t i = passes test (slice_get t i)
 abbrev pub persists_of : List Event → List ℕ
 persists_of t = list_below (length t) (event_is is_persist t)
 
+-- how many persists come before event p: its number among them, if it is one
+abbrev pub persist_number : List Event → ℕ → ℕ
+persist_number t p = count_below p (event_is is_persist t)
+
 -- event k is there, is of the core, and passes the test
 abbrev pub core_event_is : (Event → Bool) → ℕ → List Event → ℕ → Bool
 core_event_is test core t k = event_is test t k && (core_at t k == core)

@@ -1,11 +1,9 @@
 -- Serves what Code keeps, by Code::new: its instructions are those of its words, one after the other.
-use Rattle.std.proofs.Common.{◌≡◌, ℕ, zero, suc, ◌+◌, ◌<◌, List, [], ◌∷◌, ◌++◌, map, take, length, get_or, refl, ap, subst, arith}
-use Rattle.std.specs.Prelude.{Some, slice_get}
+use Rattle.std.proofs.Common.{◌≡◌, ℕ, zero, suc, ◌+◌, ◌<◌, List, [], ◌∷◌, ◌++◌, map, take, length, get_or, refl, ap, arith}
 use Rattle.std.specs.List.{All}
 use Rattle.std.specs.declared.option.Option.{Option}
 use Rattle.std.proofs.lemmas.List.{take_more}
-use Rattle.std.proofs.lemmas.List.Elements.{All-append, All-nil, All-get_or}
-use Rattle.std.proofs.lemmas.Option.{get_or_from_slice_get, slice_get_within}
+use Rattle.std.proofs.lemmas.List.Elements.{All-append, All-nil}
 use Rattle.strand_isa.specs.declared.instr.Instr.{Instr}
 use Rattle.strand_isa.specs.Decode.{instr_of}
 use Rattle.strand_exec.specs.Decoded.{IsSound, AreDecoded}
@@ -28,8 +26,3 @@ decoded_more words instrs i d instr lt is sound so = (
   rw (take_more words i d lt, map_snoc (take i words) (get_or words i d), so.0, is) refl,
   All-append IsSound instrs (instr ∷ []) so.1 (All-one instr sound),
 )
-
--- the instruction at a place
-pub sound_at : (instrs : List (Option Instr)) (k : ℕ) (instr : Option Instr) → All IsSound instrs → slice_get instrs k ≡ Some instr → IsSound instr
-sound_at instrs k instr all at =
-    subst IsSound (get_or_from_slice_get instrs k instr instr at) (All-get_or IsSound instrs k instr (slice_get_within instrs k instr at) all)

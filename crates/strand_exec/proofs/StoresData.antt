@@ -8,7 +8,7 @@ use Rattle.strand_isa.specs.Decode.{instr_of}
 use Rattle.strand_exec.specs.Arith.{store_bytes, load_bytes}
 use Rattle.strand_exec.specs.Core.{Core, Extents}
 use Rattle.strand_exec.specs.Table.{row}
-use Rattle.strand_exec.specs.Plan.{is_in, is_data, IsWord, IsPlaced, trapping, effect_of_instr, effect_of_word, effect_of, fetched, asked, plan_of}
+use Rattle.strand_exec.specs.Plan.{is_in, is_data, IsWord, trapping, effect_of_instr, effect_of_word, effect_of, fetched, asked, plan_of}
 use Rattle.strand_exec.specs.declared.life.Trap.TheVariants as traps
 use Rattle.strand_exec.specs.declared.effect.Effect.{Effect}
 use Rattle.strand_exec.specs.declared.effect.Effect.TheVariants as effects
@@ -19,17 +19,6 @@ use Rattle.strand_exec.specs.declared.planned.Plan.TheVariants as plans
 abbrev pub StoresData : Extents → Plan → Type 0
 StoresData x (plans.Store word mask bits) = IsWord x word
 StoresData x _ = Unit {0}
-
-pub stores_data : (x : Extents) (p : Plan) → IsPlaced x p → StoresData x p
-stores_data x (plans.Store word mask bits) placed = placed.0
-stores_data x plans.Plain placed = tt
-stores_data x (plans.Load word) placed = tt
-stores_data x plans.Barrier placed = tt
-stores_data x plans.NewStrand placed = tt
-stores_data x plans.Join placed = tt
-stores_data x (plans.Out value) placed = tt
-stores_data x plans.Halt placed = tt
-stores_data x (plans.Trap trap) placed = tt
 
 in_region : (base count address : ℕ) → is_in base count address ≡ true → (base ≤ address) × (address < base + 8 * count)
 in_region base count address h = let parts = and_parts _ _ h in (leb-true _ _ parts.0, ltb-true _ _ parts.1)

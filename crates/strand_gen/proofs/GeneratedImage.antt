@@ -1,7 +1,7 @@
 -- Serves generated_image: how many instructions the program has, so that there is an image of it.
 use Rattle.std.proofs.Common.{◌≡◌, ℕ, zero, suc, [], ◌∷◌, List, Ok, length, replicate, refl, arith, ap}
 use Rattle.std.proofs.lemmas.List.{length-append, length-map}
-use Rattle.strand_isa.specs.Word.{word_of}
+use Rattle.strand_isa.specs.Word.{instr_word}
 use Rattle.strand_isa.specs.declared.instr.Instr.TheVariants.{Jal}
 use Rattle.std.specs.Prelude.{negsuc}
 use Rattle.strand_image.specs.ImageSeen.{image_seen}
@@ -22,7 +22,7 @@ unfolding code_of
 code_length seed =
     let x = initial_state seed in
     let second = (core_program x).1 in
-    omega (arith, length-map (program x).0 word_of, length-append (core_program x).0 (core_program second).0, core_length x, core_length second)
+    omega (arith, length-map (program x).0 instr_word, length-append (core_program x).0 (core_program second).0, core_length x, core_length second)
 
 drawn_made : (seed : ℕ) → checked_image (generated_image seed) ≡ Ok (generated_image seed)
 unfolding checked_image within_limits entries_exist

@@ -6,7 +6,7 @@ use Rattle.strand_isa.specs.declared.ops.UpperOp.TheVariants.{Lui}
 use Rattle.strand_isa.specs.declared.ops.LoadOp.TheVariants.{Ld}
 use Rattle.strand_isa.specs.declared.ops.StoreOp.TheVariants.{Sd}
 use Rattle.strand_isa.specs.declared.ops.ImmOp.TheVariants.{Addi}
-use Rattle.strand_isa.specs.Word.{word_of}
+use Rattle.strand_isa.specs.Word.{instr_word}
 use Rattle.strand_image.specs.ImageSeen.{ImageSeen, image_seen}
 use Rattle.strand_gen.specs.Draws.{Drawn, ◌>>=◌, give, draw, draw_list, initial_state}
 
@@ -57,7 +57,7 @@ program = do
 
 -- the words of a fresh state's program
 unfoldable pub code_of : ℕ → List ℕ
-code_of seed = map word_of (program (initial_state seed)).0
+code_of seed = map instr_word (program (initial_state seed)).0
 
 -- the image of two cores, whose data is zeros
 abbrev pub generated_image : ℕ → ImageSeen

@@ -1,5 +1,5 @@
 ghost use Rattle.std.specs.Prelude.{◌≡◌, ◌*◌, ◌<◌, ◌≤◌, ◌++◌, map, pos, OnOk, IfOk};
-ghost use Rattle.strand_isa.specs.Word.{IsValid, word_of};
+ghost use Rattle.strand_isa.specs.Word.{IsValid, instr_word};
 ghost use Rattle.strand_gen.specs.Draws.{draw, draw_list, initial_state};
 ghost use Rattle.strand_gen.specs.Program.{store, load, strand_change, instruction_by, instruction, core_program, program, code_of, generated_image};
 
@@ -101,7 +101,7 @@ fn instruction(draws: &mut Draws) -> Instr
 /// Puts the words of a core's drawn instructions at the end.
 fn push_drawn(code: &mut Vec<u32>, draws: &mut Draws) -> Result<(), OutOfMemory>
     ensures words { OnOk result (code.new.items
-        ≡ code.old.items ++ map word_of (draw_list 63 instruction draws.old.state).0) }
+        ≡ code.old.items ++ map instr_word (draw_list 63 instruction draws.old.state).0) }
     ensures state { OnOk result (draws.new.state ≡ (draw_list 63 instruction draws.old.state).1) }
 {
     for _ in 0..DRAWN {
@@ -113,7 +113,7 @@ fn push_drawn(code: &mut Vec<u32>, draws: &mut Draws) -> Result<(), OutOfMemory>
 /// Puts the words of a core at the end.
 fn push_core(code: &mut Vec<u32>, draws: &mut Draws) -> Result<(), OutOfMemory>
     ensures words { OnOk result (code.new.items
-        ≡ code.old.items ++ map word_of (core_program draws.old.state).0) }
+        ≡ code.old.items ++ map instr_word (core_program draws.old.state).0) }
     ensures state { OnOk result (draws.new.state ≡ (core_program draws.old.state).1) }
 {
     let persistent = Instr::Upper {

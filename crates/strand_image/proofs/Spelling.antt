@@ -8,14 +8,15 @@ use Rattle.std.proofs.lemmas.Slice.Eq.{bytes_eq-Decides}
 use Rattle.std.specs.Str.{bytes_eq}
 use lib.Chars.{codes}
 use Rattle.strand_image.specs.ImageSeen.{ImageSeen}
-use Rattle.strand_image.specs.Limits.{AreBelow, AreEntries, IsWithin, IsWithinLimits, IsImage}
-use Rattle.strand_image.specs.Image.{numbers, u32_of, u64_of, u32s, u64s, bytes_of_u32, bytes_of_u64, bytes_of_u32s, bytes_of_u64s, header_at, file_length, parts_at, has_header, has_magic, limit_check, within_limits, has_length, entries_exist, unless_stray, header_within, header_of, image_of, list_bytes, image_bytes, ◌>>=◌}
+use Rattle.strand_image.specs.Limits.{AreEntries, IsWithin, IsWithinLimits, IsImage}
+use Rattle.strand_image.specs.Image.{header_at, file_length, parts_at, has_header, has_magic, limit_check, within_limits, has_length, entries_exist, unless_stray, header_within, header_of, image_of, list_bytes, image_bytes, ◌>>=◌}
 use Rattle.strand_image.specs.declared.quantity.Quantity.{Quantity}
 use Rattle.strand_image.specs.declared.quantity.Quantity.TheVariants.{Cores, Code, Volatile, Persistent}
 use Rattle.strand_image.specs.declared.fault.ImageFault.{ImageFault}
 use Rattle.strand_image.specs.declared.fault.ImageFault.TheVariants.{Magic}
 use Rattle.strand_image.specs.declared.reading.Header.{Header}
-use Rattle.strand_image.proofs.Fields.{AreBytes, bytes_in_drop, u32_spells, u64_spells, past_list, length-spelt, list_again, list_spelt, length-numbers, number_at}
+use Rattle.strand_base.specs.LittleEndian.{numbers, u32_of, u64_of, u32s, u64s, bytes_of_u32, bytes_of_u64, bytes_of_u32s, bytes_of_u64s, AreBelow}
+use Rattle.strand_base.proofs.LittleEndian.{AreBytes, bytes_in_drop, u32_spells, u64_spells, past_list, length-spelt, list_again, list_spelt, length-numbers, number_at}
 
 -- the header of an image
 abbrev pub header : ImageSeen → Header

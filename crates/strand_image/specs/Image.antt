@@ -1,9 +1,8 @@
 -- An image file, by whole fields: what its bytes say or their first fault, and the one spelling of an image.
-use Rattle.std.specs.Prelude.{◌≡◌, ℕ, zero, suc, ◌+◌, ◌*◌, nat_lt, nat_le, List, [], ◌∷◌, ◌++◌, length, take, drop, position, slice_index, Option, Some, None, Result, Ok, Err, if◌then◌else◌}
-use Rattle.std.specs.Int.{w32, w64, from_le_bytes, to_le_bytes}
-use Rattle.std.specs.List.{flat_map}
+use Rattle.std.specs.Prelude.{◌≡◌, ℕ, ◌+◌, ◌*◌, nat_lt, nat_le, List, [], ◌∷◌, ◌++◌, length, take, drop, position, slice_index, Option, Some, None, Result, Ok, Err, if◌then◌else◌}
 use Rattle.std.specs.Str.{bytes_eq}
 use lib.Chars.{codes}
+use Rattle.strand_base.specs.LittleEndian.{u32_of, u32s, u64s, bytes_of_u32s, bytes_of_u64s}
 use Rattle.strand_image.specs.ImageSeen.{ImageSeen, image_seen}
 use Rattle.strand_image.specs.Limits.{is_within}
 use Rattle.strand_image.specs.declared.quantity.Quantity.{Quantity}
@@ -16,24 +15,6 @@ infixl 10 ◌>>=◌
 abbrev pub ◌>>=◌ : {A B : Type 0} → Result A ImageFault → (A → Result B ImageFault) → Result B ImageFault
 (Ok x) >>= f = f x
 (Err e) >>= f = Err e
-
--- the number that the first four, or eight, bytes write, the low byte first
-unfoldable pub u32_of : List ℕ → ℕ
-u32_of bytes = from_le_bytes w32 (take 4 bytes)
-
-unfoldable pub u64_of : List ℕ → ℕ
-u64_of bytes = from_le_bytes w64 (take 8 bytes)
-
--- so many numbers, one after the other
-unfoldable pub numbers : (List ℕ → ℕ) → ℕ → ℕ → List ℕ → List ℕ
-numbers number size zero bytes = []
-numbers number size (suc count) bytes = number bytes ∷ numbers number size count (drop size bytes)
-
-abbrev pub u32s : ℕ → List ℕ → List ℕ
-u32s count bytes = numbers u32_of 4 count bytes
-
-abbrev pub u64s : ℕ → List ℕ → List ℕ
-u64s count bytes = numbers u64_of 8 count bytes
 
 -- the four numbers behind the first eight bytes
 abbrev pub header_at : List ℕ → Header
@@ -107,19 +88,6 @@ checked_image p = do
 abbrev pub GivesImage : {X : Type 0} → Result X ImageFault → Result X ImageFault → Type 0
 GivesImage (Err OutOfMemory) read = Unit {0}
 GivesImage result read = result ≡ read
-
--- the bytes of a number, the low byte first
-unfoldable pub bytes_of_u32 : ℕ → List ℕ
-bytes_of_u32 n = to_le_bytes w32 n
-
-unfoldable pub bytes_of_u64 : ℕ → List ℕ
-bytes_of_u64 n = to_le_bytes w64 n
-
-abbrev pub bytes_of_u32s : List ℕ → List ℕ
-bytes_of_u32s ns = flat_map bytes_of_u32 ns
-
-abbrev pub bytes_of_u64s : List ℕ → List ℕ
-bytes_of_u64s ns = flat_map bytes_of_u64 ns
 
 -- the one spelling of an image
 abbrev pub header_bytes : ImageSeen → List ℕ

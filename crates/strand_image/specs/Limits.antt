@@ -1,6 +1,7 @@
 -- How much an image may have, and that its entries are in its code.
 use Rattle.std.specs.Prelude.{ℕ, ◌<◌, ◌≤◌, ◌^◌, ◌&&◌, Bool, nat_le, List, length, slice_index}
 use Rattle.strand_base.specs.declared.limits.TheConstants.{MOST_CORES, MOST_CODE, MOST_DATA}
+use Rattle.strand_base.specs.LittleEndian.{AreBelow}
 use Rattle.strand_image.specs.ImageSeen.{ImageSeen}
 use Rattle.strand_image.specs.declared.quantity.Quantity.{Quantity}
 use Rattle.strand_image.specs.declared.quantity.Quantity.TheVariants.{Cores, Code, Volatile, Persistent}
@@ -29,10 +30,6 @@ pub record IsWithinLimits (cores code volatile persistent : ℕ) : Type 0 where
   pub code_within : IsWithin Code code
   pub volatile_within : IsWithin Volatile volatile
   pub persistent_within : IsWithin Persistent persistent
-
--- each number is below a bound
-abbrev pub AreBelow : ℕ → List ℕ → Type 0
-AreBelow bound numbers = (k : ℕ) → k < length numbers → slice_index numbers k < bound
 
 -- each entry is the number of a code word
 abbrev pub AreEntries : List ℕ → ℕ → Type 0

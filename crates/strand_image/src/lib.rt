@@ -4,7 +4,6 @@
 
 mod fault;
 mod image;
-mod numbers;
 mod quantity;
 mod reading;
 mod writing;

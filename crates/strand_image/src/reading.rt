@@ -3,9 +3,9 @@ ghost use Rattle.strand_image.specs.Limits.{IsWithinLimits};
 ghost use Rattle.strand_image.specs.Image.{header_at, header_of, file_length, has_length, parts_at, entries_exist, image_of, image_bytes, GivesImage};
 
 use crate::image::{check_limits, with_entries};
-use crate::numbers::{read_u32s, read_u64s, u32_at};
 use crate::{Image, ImageFault};
 use std::alloc::Global;
+use strand_base::{read_u32s, read_u64s, u32_at};
 
 const MAGIC: &[u8] = b"STRANDP1";
 

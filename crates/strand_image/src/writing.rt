@@ -1,42 +1,10 @@
 ghost use Rattle.std.specs.Prelude.{◌≡◌, Ok};
 ghost use Rattle.strand_base.specs.Puts.{Puts};
 ghost use Rattle.strand_image.specs.Limits.{IsImage};
-ghost use Rattle.strand_image.specs.Image.{bytes_of_u32, bytes_of_u64, bytes_of_u32s, bytes_of_u64s, header_bytes, list_bytes, image_bytes, image_of};
+ghost use Rattle.strand_image.specs.Image.{header_bytes, list_bytes, image_bytes, image_of};
 
 use crate::Image;
-use strand_base::{OutOfMemory, put};
-
-#[tactic(auto, unfolding(crate::specs::Image::bytes_of_u32))]
-fn put_u32(into: &mut Vec<u8>, number: u32) -> Result<(), OutOfMemory>
-    ensures { Puts result (bytes_of_u32 number) into.old.items into.new.items }
-{
-    put(into, &number.to_le_bytes())
-}
-
-#[tactic(auto, unfolding(crate::specs::Image::bytes_of_u64))]
-fn put_u64(into: &mut Vec<u8>, number: u64) -> Result<(), OutOfMemory>
-    ensures { Puts result (bytes_of_u64 number) into.old.items into.new.items }
-{
-    put(into, &number.to_le_bytes())
-}
-
-fn put_u32s(into: &mut Vec<u8>, numbers: &[u32]) -> Result<(), OutOfMemory>
-    ensures { Puts result (bytes_of_u32s numbers.now) into.old.items into.new.items }
-{
-    for number in numbers {
-        put_u32(into, *number)?;
-    }
-    Ok(())
-}
-
-fn put_u64s(into: &mut Vec<u8>, numbers: &[u64]) -> Result<(), OutOfMemory>
-    ensures { Puts result (bytes_of_u64s numbers.now) into.old.items into.new.items }
-{
-    for number in numbers {
-        put_u64(into, *number)?;
-    }
-    Ok(())
-}
+use strand_base::{OutOfMemory, put, put_u32s, put_u64s};
 
 fn put_header(into: &mut Vec<u8>, image: &Image) -> Result<(), OutOfMemory>
     ensures text { Puts result (header_bytes image.now) into.old.items into.new.items }

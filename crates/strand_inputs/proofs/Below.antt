@@ -13,7 +13,7 @@ use Rattle.strand_inputs.specs.declared.schedule.RawStep.{RawStep}
 use Rattle.strand_inputs.specs.declared.schedule.RawStep.TheVariants as raw
 use Rattle.strand_inputs.specs.RawStep.{raw_step_of}
 use Rattle.strand_inputs.specs.Reading.{◌>>=◌, each_line, GivesInput}
-use Rattle.strand_inputs.specs.Schedule.{below, allowed, times, repeat_of, repeat_of_line, with_repeat, line_added, schedule_of, IsBelow}
+use Rattle.strand_inputs.specs.Schedule.{number_below, allowed, times, repeat_of, repeat_of_line, with_repeat, line_added, schedule_of, IsBelow}
 
 then_holds : {A B : Type 0} (P : A → Type 0) (Q : B → Type 0) (r : Result A InputFault) (f : A → Result B InputFault)
     → IfOk r P → ((x : A) → P x → IfOk (f x) Q) → IfOk (r >>= f) Q
@@ -30,18 +30,18 @@ unfolding each_line
 each_holds P step keeps s [] p = p
 each_holds P step keeps s (l ∷ ls) p = then_holds P P (step s l.0 l.1) (λ t. each_line step t ls) (keeps s l.0 l.1 p) (λ t q. each_holds P step keeps t ls q)
 
-below_holds : (line n bound : ℕ) → IfOk (below line n bound) (λ m. m < bound)
+below_holds : (line n bound : ℕ) → IfOk (number_below line n bound) (λ m. m < bound)
 below_holds line n bound = cond_both (nat_lt n bound) (Ok n) (Err (Limit line n)) (λ r. IfOk r (λ m. m < bound)) (λ lt. ltb-true n bound lt) (λ no. tt)
 
 module _ (cores buffers : ℕ) where
   allowed_below : (line : ℕ) (s : RawStep) → IfOk (allowed cores buffers line s) (IsBelow cores buffers)
-  allowed_below line (raw.Core n) = then_holds (λ m. m < cores) (IsBelow cores buffers) (below line n cores) (λ m. Ok (steps.Core m)) (below_holds line n cores) (λ m lt. lt)
-  allowed_below line (raw.Dispatch n) = then_holds (λ m. m < cores) (IsBelow cores buffers) (below line n cores) (λ m. Ok (steps.Dispatch m)) (below_holds line n cores) (λ m lt. lt)
+  allowed_below line (raw.Core n) = then_holds (λ m. m < cores) (IsBelow cores buffers) (number_below line n cores) (λ m. Ok (steps.Core m)) (below_holds line n cores) (λ m lt. lt)
+  allowed_below line (raw.Dispatch n) = then_holds (λ m. m < cores) (IsBelow cores buffers) (number_below line n cores) (λ m. Ok (steps.Dispatch m)) (below_holds line n cores) (λ m lt. lt)
   allowed_below line (raw.Send n b j) =
-      then_holds (λ m. m < cores) (IsBelow cores buffers) (below line n cores) (λ m. below line b buffers >>= λ d. below line j MOST_RING >>= λ k. Ok (steps.Send m d k)) (below_holds line n cores) (λ m core.
-      then_holds (λ d. d < buffers) (IsBelow cores buffers) (below line b buffers) (λ d. below line j MOST_RING >>= λ k. Ok (steps.Send m d k)) (below_holds line b buffers) (λ d buffer.
-      then_any (IsBelow cores buffers) (below line j MOST_RING) (λ k. Ok (steps.Send m d k)) (λ k. (core, buffer))))
-  allowed_below line (raw.Write j) = then_any (IsBelow cores buffers) (below line j MOST_FLIGHT) (λ k. Ok (steps.Write k)) (λ k. tt)
+      then_holds (λ m. m < cores) (IsBelow cores buffers) (number_below line n cores) (λ m. number_below line b buffers >>= λ d. number_below line j MOST_RING >>= λ k. Ok (steps.Send m d k)) (below_holds line n cores) (λ m core.
+      then_holds (λ d. d < buffers) (IsBelow cores buffers) (number_below line b buffers) (λ d. number_below line j MOST_RING >>= λ k. Ok (steps.Send m d k)) (below_holds line b buffers) (λ d buffer.
+      then_any (IsBelow cores buffers) (number_below line j MOST_RING) (λ k. Ok (steps.Send m d k)) (λ k. (core, buffer))))
+  allowed_below line (raw.Write j) = then_any (IsBelow cores buffers) (number_below line j MOST_FLIGHT) (λ k. Ok (steps.Write k)) (λ k. tt)
 
   repeat_below : (line : ℕ) (s : Option (RawStep × ℕ)) → IfOk (repeat_of cores buffers line s) (λ repeat. IsBelow cores buffers repeat.0)
   repeat_below line None = tt

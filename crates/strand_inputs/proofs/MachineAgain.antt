@@ -1,5 +1,5 @@
 -- Serves clause again of print_machine: a printed machine file is read again.
-use Rattle.std.proofs.Common.{◌≡◌, ℕ, ◌^◌, ◌<◌, ◌≤◌, true, false, ◌&&◌, List, [], ◌∷◌, Some, None, Result, Ok, refl, arith, rules}
+use Rattle.std.proofs.Common.{◌≡◌, ℕ, ◌^◌, ◌<◌, ◌≤◌, true, false, ◌&&◌, List, [], ◌∷◌, Some, None, Ok, refl, arith, rules}
 use Rattle.std.specs.Prelude.{nat_le}
 use Rattle.std.specs.List.{enumerate_from, AllByRecursion}
 use Rattle.std.specs.Fmt.{decimal}
@@ -16,11 +16,10 @@ use Rattle.strand_inputs.specs.declared.machine.Size.{Size}
 use Rattle.strand_inputs.specs.declared.machine.Size.TheVariants as sizes
 use Rattle.strand_inputs.specs.declared.machine.Setting.TheVariants as settings
 use Rattle.strand_inputs.specs.declared.machine.Given.{Given}
-use Rattle.strand_inputs.specs.declared.fault.InputFault.{InputFault}
 use Rattle.strand_inputs.specs.Settings.{Settings}
 use Rattle.strand_inputs.specs.Limits.{IsFrom1To, IsWithinLimits, fields_of_settings}
 use Rattle.strand_inputs.specs.Reading.{◌>>=◌, each_line}
-use Rattle.strand_inputs.specs.Machine.{setting_at, mode_word, conflict_words, machine_words, machine_text, machine, most_at, place, line_given, nothing, config_of, put, earlier, size_of}
+use Rattle.strand_inputs.specs.Machine.{setting_at, mode_word, conflict_words, machine_words, machine_text, machine, most_at, place, line_given, nothing_given, config_of, put, earlier, size_named}
 
 mode_again : (m : Mode) → setting_at (codes "mode") (mode_word m) ≡ Some (settings.Mode m)
 unfolding setting_at
@@ -35,7 +34,7 @@ mode_plain modes.Strand = search rules
 
 -- the word names the size, and no other key
 abbrev Names : List ℕ → Size → Type 0
-Names key z = (bytes_eq key (codes "mode") ≡ false) × (bytes_eq key (codes "conflict") ≡ false) × (size_of key ≡ Some z)
+Names key z = (bytes_eq key (codes "mode") ≡ false) × (bytes_eq key (codes "conflict") ≡ false) × (size_named key ≡ Some z)
 
 size_again : (key : List ℕ) (z : Size) (n : ℕ) → n < 2 ^ 64 → Names key z → setting_at key (decimal n) ≡ Some (settings.Size z n)
 unfolding setting_at
@@ -43,10 +42,6 @@ size_again key z n fits named = rw (named.0, named.1, named.2, decimal_again n f
 
 within_test : (most n : ℕ) → IsFrom1To most n → (nat_le 1 n && nat_le n most) ≡ true
 within_test most n h = grind (arith, nat_tests)
-
-one_line : {S : Type 0} (step : S → ℕ → List (List ℕ) → Result S InputFault) (s t : S) (n : ℕ) (ws : List (List ℕ)) (rest : List (ℕ × List (List ℕ))) → step s n ws ≡ Ok t → each_line step s ((n, ws) ∷ rest) ≡ each_line step t rest
-unfolding each_line
-one_line step s t n ws rest e = rw e refl
 
 size_line : (g : Given) (line : ℕ) (key : List ℕ) (z : Size) (n : ℕ) → Names key z → n < 2 ^ 64 → IsFrom1To (most_at (place z)) n → earlier g (settings.Size z n) ≡ None → line_given g line (key ∷ decimal n ∷ []) ≡ Ok (put g line (settings.Size z n))
 size_line g line key z n named fits within fresh = rw (size_again key z n fits named, within_test (most_at (place z)) n within, fresh) refl
@@ -78,8 +73,8 @@ by_conflict P stall tag conflicts.Tag = tag
 pub machine_again : (s : Settings) → IsWithinLimits (fields_of_settings s) → machine (machine_text s) ≡ Ok s
 unfolding machine machine_text config_of each_line setting_at
 machine_again s h =
-    let mode_line : line_given nothing 1 (codes "mode" ∷ mode_word s.mode ∷ []) ≡ Ok (put nothing 1 (settings.Mode s.mode)) = rw (mode_again s.mode) refl in
-    let g1 = put nothing 1 (settings.Mode s.mode) in
+    let mode_line : line_given nothing_given 1 (codes "mode" ∷ mode_word s.mode ∷ []) ≡ Ok (put nothing_given 1 (settings.Mode s.mode)) = rw (mode_again s.mode) refl in
+    let g1 = put nothing_given 1 (settings.Mode s.mode) in
     let g2 = put g1 2 (settings.Size sizes.Queue s.queue) in
     let g3 = put g2 3 (settings.Size sizes.Buffers s.buffers) in
     let g4 = put g3 4 (settings.Size sizes.Ring s.ring) in

@@ -17,7 +17,7 @@ use Rattle.strand_inputs.specs.declared.schedule.RawStep.TheVariants as raw
 use Rattle.strand_inputs.specs.Fits.{StepFits, IsSchedule}
 use Rattle.strand_inputs.specs.Reading.{each_line}
 use Rattle.strand_inputs.specs.RawStep.{raw_step_as, raw_step_of, count_of}
-use Rattle.strand_inputs.specs.Schedule.{below, allowed, times, repeat_of_line, line_added, schedule_of, same_step, onto_repeat, repeats_of, step_words, repeat_words, schedule_text, IsBelow}
+use Rattle.strand_inputs.specs.Schedule.{number_below, allowed, times, repeat_of_line, line_added, schedule_of, same_step, onto_repeat, repeats_of, step_words, repeat_words, schedule_text, IsBelow}
 
 -- the words of a repeat's count
 abbrev count_words : ℕ → List (List ℕ)
@@ -50,7 +50,7 @@ raw_step_again (steps.Dispatch n) k ws small counted = rw (decimal_again n small
 raw_step_again (steps.Send n b j) k ws small counted = rw (decimal_again n small.0, decimal_again b small.1, decimal_again j small.2, counted) refl
 raw_step_again (steps.Write j) k ws small counted = rw (decimal_again j small, counted) refl
 
-below_ok : (line n bound : ℕ) → n < bound → below line n bound ≡ Ok n
+below_ok : (line n bound : ℕ) → n < bound → number_below line n bound ≡ Ok n
 below_ok line n bound lt =
     let t : nat_lt n bound ≡ true = lt-ltb _ _ lt in
     rw t refl

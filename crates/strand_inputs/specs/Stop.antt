@@ -3,14 +3,14 @@ use Rattle.std.specs.Prelude.{ℕ, List, Option, Some, Result, Ok, Err, nat_le, 
 use Rattle.std.specs.Option.{option_map}
 use Rattle.std.specs.Str.{bytes_eq}
 use lib.Chars.{codes}
-use Rattle.strand_inputs.specs.Machine.{number_of}
+use Rattle.strand_inputs.specs.Machine.{decimal_in}
 use Rattle.strand_inputs.specs.declared.stop.Stop.{Stop}
 use Rattle.strand_inputs.specs.declared.stop.Stop.TheVariants.{End, At}
 use Rattle.strand_inputs.specs.declared.stop.StopPast.{StopPast}
 
 -- 'end', or a number
 unfoldable pub stop_of : List ℕ → Option Stop
-stop_of word = if bytes_eq word (codes "end") then Some End else option_map (λ n. At n) (number_of word)
+stop_of word = if bytes_eq word (codes "end") then Some End else option_map (λ n. At n) (decimal_in word)
 
 -- how many of a schedule's steps are made
 abbrev pub steps_to : Stop → ℕ → Result ℕ StopPast

@@ -1,12 +1,13 @@
-ghost use Rattle.std.specs.Prelude.{◌≡◌, ◌+◌, ◌*◌, ◌++◌, ◌≤◌, [], ◌∷◌, length, drop, IfOk, OnOk, OnErr, Ok};
+ghost use Rattle.std.specs.Prelude.{◌≡◌, ◌*◌, ◌++◌, ◌≤◌, [], ◌∷◌, length, IfOk, OnOk, OnErr, Ok};
+ghost use Rattle.strand_base.specs.LittleEndian.{u64s};
 ghost use Rattle.strand_base.specs.Puts.{Puts};
 ghost use Rattle.strand_inputs.specs.Reading.{GivesInput};
-ghost use Rattle.strand_inputs.specs.Crash.{word_in, words_in, crash_words_of, word_bytes, crash_bytes};
+ghost use Rattle.strand_inputs.specs.Crash.{crash_words_of, crash_bytes};
 
 use crate::fault::InputFault;
 use std::alloc::Global;
 use std::marker::Model;
-use strand_base::{OutOfMemory, put};
+use strand_base::{OutOfMemory, put_u64s, read_u64s};
 
 /// A list of words of 64 bits, which contracts see as a list.
 #[derive(Debug, Drop)]
@@ -49,34 +50,14 @@ impl Words {
     }
 }
 
-/// The word that eight bytes write, the low byte first.
-#[tactic(auto, unfolding(crate::specs::Crash::word_in))]
-fn word_at(bytes: &[u8], at: usize) -> u64
-    requires { at + 8 ≤ length bytes.now }
-    ensures { result ≡ word_in (drop at bytes.now) }
-{
-    u64::from_le_bytes([
-        bytes[at],
-        bytes[at + 1],
-        bytes[at + 2],
-        bytes[at + 3],
-        bytes[at + 4],
-        bytes[at + 5],
-        bytes[at + 6],
-        bytes[at + 7],
-    ])
-}
-
-/// So many words, one after the other.
+// So many words, one after the other.
 fn read_words(alloc: Global, bytes: &[u8], count: u32) -> Result<Words, OutOfMemory>
     requires { 8 * count ≤ length bytes.now }
-    ensures { IfOk result (λ words. words ≡ words_in count bytes.now) }
+    ensures { IfOk result (λ words. words ≡ u64s count bytes.now) }
 {
-    let mut words = Words::new(alloc);
-    for k in 0..count as usize {
-        words.push(word_at(bytes, 8 * k))?;
-    }
-    Ok(words)
+    Ok(Words {
+        items: read_u64s(alloc, bytes, count)?,
+    })
 }
 
 /// The crash image of so many words that the bytes are, eight bytes a word and the low byte first.
@@ -99,21 +80,11 @@ pub fn read_crash(alloc: Global, bytes: &[u8], words: u32) -> Result<Words, Inpu
     }
 }
 
-#[tactic(auto, unfolding(crate::specs::Crash::word_bytes))]
-fn put_word(into: &mut Vec<u8>, word: u64) -> Result<(), OutOfMemory>
-    ensures { Puts result (word_bytes word) into.old.items into.new.items }
-{
-    put(into, &word.to_le_bytes())
-}
-
 /// Appends the words of a crash image, which are read back. Where memory ran out, a front of them is
 /// appended.
 pub fn print_crash(words: &[u64], into: &mut Vec<u8>) -> Result<(), OutOfMemory>
     ensures text { Puts result (crash_bytes words.now) into.old.items into.new.items }
     ensures again { crash_words_of (length words.now) (crash_bytes words.now) ≡ Ok words.now }
 {
-    for word in words {
-        put_word(into, *word)?;
-    }
-    Ok(())
+    put_u64s(into, words)
 }

@@ -3,14 +3,14 @@ use Rattle.std.proofs.Common.{◌≡◌, ◌↔◌, ℕ, ◌<◌, ℤ, pos, negs
 use Rattle.std.proofs.lemmas.Bool.Decides.{nat_tests}
 use Rattle.strand_isa.specs.Word.{IsEvenWithin, IsValid, IsInRange}
 use Rattle.strand_isa.specs.Ops.{amount_bound}
-use Rattle.strand_isa.specs.Faults.{below, even_range_fault, fault_of, first_of, range_fault}
+use Rattle.strand_isa.specs.Faults.{fault_unless_below, even_range_fault, fault_of, first_of, range_fault}
 use Rattle.strand_isa.specs.declared.fault.Field.{Field}
 use Rattle.strand_isa.specs.declared.fault.Field.TheVariants.{Rd, Rs1, Rs2, Imm as ImmField, Offset, Amount, Bits}
 use Rattle.strand_isa.specs.declared.fault.FieldFault.{FieldFault}
 use Rattle.strand_isa.specs.declared.instr.Instr.{Instr}
 use Rattle.strand_isa.specs.declared.instr.Instr.TheVariants.{Upper, Jal, Jalr, Branch, Load, Store, Imm, Shift, Reg, Fence, Ecall, Ebreak, PersistBarrier, NewStrand, JoinStrand}
 
-below-is : (field : Field) (bound n : ℕ) → (below field bound n ≡ None) ↔ (n < bound)
+below-is : (field : Field) (bound n : ℕ) → (fault_unless_below field bound n ≡ None) ↔ (n < bound)
 below-is field bound n = grind (arith, nat_tests)
 
 range_fault-is : (field : Field) (h : ℕ) (z : ℤ) → (range_fault field h z ≡ None) ↔ IsInRange h z

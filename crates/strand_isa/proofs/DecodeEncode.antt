@@ -3,7 +3,7 @@ use Rattle.std.proofs.Common.{◌≡◌, ℕ, ◌+◌, ◌-◌, ◌*◌, ◌/◌
 use Rattle.std.proofs.lemmas.Bool.Decides.{nat_tests}
 use Rattle.strand_isa.specs.Opcodes.{JAL, JALR, MISC_MEM}
 use Rattle.strand_isa.specs.declared.ops.TheConstants.{BRANCH_OPS, IMM_OPS, LOAD_OPS, REG_OPS, SHIFT_OPS, STORE_OPS, UPPER_OPS}
-use Rattle.strand_isa.specs.Word.{IsValid, IsInRange, b_form, field_of, i_form, j_form, s_form, word_of}
+use Rattle.strand_isa.specs.Word.{IsValid, IsInRange, b_form, field_of, i_form, j_form, s_form, instr_word}
 use Rattle.strand_isa.specs.Ops.{AreSmallCodes, amount_bound, branch_row, imm_row, load_row, op_at, reg_row, shift_row, store_row, upper_row}
 use Rattle.strand_isa.specs.Decode.{branch_at, fence_at, imm_at, instr_of, jalr_at, load_at, reg_at, shift_at, signed_of, store_at, upper_at}
 use Rattle.strand_isa.specs.declared.instr.Instr.{Instr}
@@ -80,35 +80,35 @@ reg_read : (op : RegOp) → AreSmallCodes 128 (reg_row op).codes × (op_at reg_r
 unfolding instr_of op_at
 reg_read op = (grind arith, grind arith, grind (arith, nat_tests))
 
-upper_back : (op : UpperOp) (rd imm : ℕ) → IsValid (Upper op rd imm) → instr_of (word_of (Upper op rd imm)) ≡ Some (Upper op rd imm)
+upper_back : (op : UpperOp) (rd imm : ℕ) → IsValid (Upper op rd imm) → instr_of (instr_word (Upper op rd imm)) ≡ Some (Upper op rd imm)
 unfolding upper_at
 upper_back op rd imm v =
     let r = upper_read op in
     let k = u_fields (upper_row op).codes.opcode rd imm r.0.0 v.0 in
     r.2 _ k.0 ∙ rw (k.0, k.1, k.2, r.1) refl
 
-branch_back : (op : BranchOp) (rs1 rs2 : ℕ) (offset : ℤ) → IsValid (Branch op rs1 rs2 offset) → instr_of (word_of (Branch op rs1 rs2 offset)) ≡ Some (Branch op rs1 rs2 offset)
+branch_back : (op : BranchOp) (rs1 rs2 : ℕ) (offset : ℤ) → IsValid (Branch op rs1 rs2 offset) → instr_of (instr_word (Branch op rs1 rs2 offset)) ≡ Some (Branch op rs1 rs2 offset)
 unfolding branch_at
 branch_back op rs1 rs2 offset v =
     let r = branch_read op in
     let k = b_fields (branch_row op).codes.opcode (branch_row op).codes.funct3 rs1 rs2 (field_of 4096 offset) r.0.0 r.0.1 v.0 v.1 (field_small 4096 offset v.2.0) v.2.1 in
     r.2 _ k.0 ∙ rw (k.0, k.1, k.2, k.3, k.4, r.1, signed-field 4096 offset v.2.0) refl
 
-load_back : (op : LoadOp) (rd rs1 : ℕ) (imm : ℤ) → IsValid (Load op rd rs1 imm) → instr_of (word_of (Load op rd rs1 imm)) ≡ Some (Load op rd rs1 imm)
+load_back : (op : LoadOp) (rd rs1 : ℕ) (imm : ℤ) → IsValid (Load op rd rs1 imm) → instr_of (instr_word (Load op rd rs1 imm)) ≡ Some (Load op rd rs1 imm)
 unfolding load_at
 load_back op rd rs1 imm v =
     let r = load_read op in
     let k = i_fields (load_row op).codes.opcode rd (load_row op).codes.funct3 rs1 (field_of 2048 imm) r.0.0 v.0 r.0.1 v.1 in
     r.2 _ k.0 ∙ rw (k.0, k.1, k.2, k.3, k.4, r.1, signed-field 2048 imm v.2) refl
 
-store_back : (op : StoreOp) (rs1 rs2 : ℕ) (imm : ℤ) → IsValid (Store op rs1 rs2 imm) → instr_of (word_of (Store op rs1 rs2 imm)) ≡ Some (Store op rs1 rs2 imm)
+store_back : (op : StoreOp) (rs1 rs2 : ℕ) (imm : ℤ) → IsValid (Store op rs1 rs2 imm) → instr_of (instr_word (Store op rs1 rs2 imm)) ≡ Some (Store op rs1 rs2 imm)
 unfolding store_at
 store_back op rs1 rs2 imm v =
     let r = store_read op in
     let k = s_fields (store_row op).codes.opcode (store_row op).codes.funct3 rs1 rs2 (field_of 2048 imm) r.0.0 r.0.1 v.0 v.1 (field_small 2048 imm v.2) in
     r.2 _ k.0 ∙ rw (k.0, k.1, k.2, k.3, k.4, r.1, signed-field 2048 imm v.2) refl
 
-imm_back : (op : ImmOp) (rd rs1 : ℕ) (imm : ℤ) → IsValid (Imm op rd rs1 imm) → instr_of (word_of (Imm op rd rs1 imm)) ≡ Some (Imm op rd rs1 imm)
+imm_back : (op : ImmOp) (rd rs1 : ℕ) (imm : ℤ) → IsValid (Imm op rd rs1 imm) → instr_of (instr_word (Imm op rd rs1 imm)) ≡ Some (Imm op rd rs1 imm)
 unfolding imm_at
 imm_back op rd rs1 imm v =
     let r = imm_read op in
@@ -118,7 +118,7 @@ imm_back op rd rs1 imm v =
 bound_small : (op : ShiftOp) → amount_bound op < 65
 bound_small op = grind arith
 
-shift_back : (op : ShiftOp) (rd rs1 amount : ℕ) → IsValid (Shift op rd rs1 amount) → instr_of (word_of (Shift op rd rs1 amount)) ≡ Some (Shift op rd rs1 amount)
+shift_back : (op : ShiftOp) (rd rs1 amount : ℕ) → IsValid (Shift op rd rs1 amount) → instr_of (instr_word (Shift op rd rs1 amount)) ≡ Some (Shift op rd rs1 amount)
 unfolding shift_at
 shift_back op rd rs1 amount v =
     let r = shift_read op in
@@ -128,7 +128,7 @@ shift_back op rd rs1 amount v =
     let b : nat_lt amount (amount_bound op) ≡ true = grind (arith, nat_tests) in
     r.2 _ k.0 k.2 ∙ rw (k.0, k.1, k.2, k.3, l.0, l.1, r.1, b) refl
 
-reg_back : (op : RegOp) (rd rs1 rs2 : ℕ) → IsValid (Reg op rd rs1 rs2) → instr_of (word_of (Reg op rd rs1 rs2)) ≡ Some (Reg op rd rs1 rs2)
+reg_back : (op : RegOp) (rd rs1 rs2 : ℕ) → IsValid (Reg op rd rs1 rs2) → instr_of (instr_word (Reg op rd rs1 rs2)) ≡ Some (Reg op rd rs1 rs2)
 unfolding reg_at
 reg_back op rd rs1 rs2 v =
     let r = reg_read op in
@@ -138,7 +138,7 @@ reg_back op rd rs1 rs2 v =
     r.2 _ k.0 ∙ rw (k.0, k.1, k.2, k.3, l.0, l.1, r.1) refl
 
 -- a valid instruction is what its word stands for
-pub read_back : (i : Instr) → IsValid i → instr_of (word_of i) ≡ Some i
+pub read_back : (i : Instr) → IsValid i → instr_of (instr_word i) ≡ Some i
 unfolding instr_of jalr_at fence_at
 read_back (Upper op rd imm) v = upper_back op rd imm v
 read_back (Jal rd offset) v =

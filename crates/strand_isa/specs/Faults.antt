@@ -8,8 +8,8 @@ use Rattle.strand_isa.specs.declared.fault.FieldFault.{FieldFault}
 use Rattle.strand_isa.specs.Word.{field_of}
 use Rattle.strand_isa.specs.Ops.{amount_bound}
 
-abbrev pub below : Field → ℕ → ℕ → Option FieldFault
-below field bound n = if nat_lt n bound then None else Some (record { field = field; value = pos n })
+abbrev pub fault_unless_below : Field → ℕ → ℕ → Option FieldFault
+fault_unless_below field bound n = if nat_lt n bound then None else Some (record { field = field; value = pos n })
 
 abbrev pub is_in_range : ℕ → ℤ → Bool
 is_in_range h (pos n) = nat_lt n h
@@ -29,21 +29,21 @@ first_of None g = g
 
 -- the first field, in the order of the variant, that is out of its range
 unfoldable pub fault_of : Instr → Option FieldFault
-fault_of (Upper op rd imm) = first_of (below Rd 32 rd) (below ImmField 1048576 imm)
-fault_of (Jal rd offset) = first_of (below Rd 32 rd) (even_range_fault Offset 1048576 offset)
-fault_of (Jalr rd rs1 imm) = first_of (first_of (below Rd 32 rd) (below Rs1 32 rs1)) (range_fault ImmField 2048 imm)
+fault_of (Upper op rd imm) = first_of (fault_unless_below Rd 32 rd) (fault_unless_below ImmField 1048576 imm)
+fault_of (Jal rd offset) = first_of (fault_unless_below Rd 32 rd) (even_range_fault Offset 1048576 offset)
+fault_of (Jalr rd rs1 imm) = first_of (first_of (fault_unless_below Rd 32 rd) (fault_unless_below Rs1 32 rs1)) (range_fault ImmField 2048 imm)
 fault_of (Branch op rs1 rs2 offset) =
-    first_of (first_of (below Rs1 32 rs1) (below Rs2 32 rs2)) (even_range_fault Offset 4096 offset)
+    first_of (first_of (fault_unless_below Rs1 32 rs1) (fault_unless_below Rs2 32 rs2)) (even_range_fault Offset 4096 offset)
 fault_of (Load op rd rs1 imm) =
-    first_of (first_of (below Rd 32 rd) (below Rs1 32 rs1)) (range_fault ImmField 2048 imm)
+    first_of (first_of (fault_unless_below Rd 32 rd) (fault_unless_below Rs1 32 rs1)) (range_fault ImmField 2048 imm)
 fault_of (Store op rs1 rs2 imm) =
-    first_of (first_of (below Rs1 32 rs1) (below Rs2 32 rs2)) (range_fault ImmField 2048 imm)
+    first_of (first_of (fault_unless_below Rs1 32 rs1) (fault_unless_below Rs2 32 rs2)) (range_fault ImmField 2048 imm)
 fault_of (Imm op rd rs1 imm) =
-    first_of (first_of (below Rd 32 rd) (below Rs1 32 rs1)) (range_fault ImmField 2048 imm)
+    first_of (first_of (fault_unless_below Rd 32 rd) (fault_unless_below Rs1 32 rs1)) (range_fault ImmField 2048 imm)
 fault_of (Shift op rd rs1 amount) =
-    first_of (first_of (below Rd 32 rd) (below Rs1 32 rs1)) (below Amount (amount_bound op) amount)
+    first_of (first_of (fault_unless_below Rd 32 rd) (fault_unless_below Rs1 32 rs1)) (fault_unless_below Amount (amount_bound op) amount)
 fault_of (Reg op rd rs1 rs2) =
-    first_of (first_of (below Rd 32 rd) (below Rs1 32 rs1)) (below Rs2 32 rs2)
+    first_of (first_of (fault_unless_below Rd 32 rd) (fault_unless_below Rs1 32 rs1)) (fault_unless_below Rs2 32 rs2)
 fault_of (Fence rd rs1 bits) =
-    first_of (first_of (below Rd 32 rd) (below Rs1 32 rs1)) (below Bits 4096 bits)
+    first_of (first_of (fault_unless_below Rd 32 rd) (fault_unless_below Rs1 32 rs1)) (fault_unless_below Bits 4096 bits)
 fault_of _ = None

@@ -1,4 +1,4 @@
--- The opcodes, bits 6..0 of a word, by the manual's names (RISC-V Unprivileged ISA, table of base opcodes).
+-- The opcodes of the instructions that have fields, bits 6..0 of a word, by the manual's names (RISC-V Unprivileged ISA, table of base opcodes).
 use Rattle.std.specs.Prelude.{ℕ}
 
 -- the loads
@@ -48,11 +48,3 @@ JALR = 0b1100111
 -- the jump by an offset
 abbrev pub JAL : ℕ
 JAL = 0b1101111
-
--- the call of the environment and the halt
-abbrev pub SYSTEM : ℕ
-SYSTEM = 0b1110011
-
--- the opcode that is free for custom instructions: the persist instructions
-abbrev pub CUSTOM_0 : ℕ
-CUSTOM_0 = 0b0001011

@@ -5,7 +5,7 @@ use lib.Chars.{codes}
 use Rattle.std.specs.List.{position_or_len}
 use Rattle.strand_base.specs.Hexadecimal.{hex16}
 use Rattle.strand_base.specs.Puts.{AppendsFront}
-use Rattle.strand_isa.specs.Word.{word_of}
+use Rattle.strand_isa.specs.Word.{instr_word}
 use Rattle.strand_isa.specs.declared.printing.Part.{Part}
 use Rattle.strand_isa.specs.declared.printing.Part.TheVariants.{Register, Upper as Field, Number, Memory}
 use Rattle.strand_isa.specs.declared.instr.Instr.{Instr}
@@ -52,7 +52,7 @@ instr_text (Store op rs1 rs2 imm) = Some (two (store_row op).name (register_text
 instr_text (Imm op rd rs1 imm) = Some (three (imm_row op).name (register_text rd) (register_text rs1) (signed_decimal imm))
 instr_text (Shift op rd rs1 amount) = Some (three (shift_row op).name (register_text rd) (register_text rs1) (decimal amount))
 instr_text (Reg op rd rs1 rs2) = Some (three (reg_row op).name (register_text rd) (register_text rs1) (register_text rs2))
-instr_text (Fence rd rs1 bits) = if word_of (Fence rd rs1 bits) == 0x0ff0000f then Some (codes "fence") else None
+instr_text (Fence rd rs1 bits) = if instr_word (Fence rd rs1 bits) == 0x0ff0000f then Some (codes "fence") else None
 instr_text Ecall = Some (codes "ecall")
 instr_text Ebreak = Some (codes "ebreak")
 instr_text PersistBarrier = Some (codes "persistbarrier")

@@ -38,28 +38,28 @@ abbrev pub j_form : ℕ → ℕ → ℕ → ℕ
 j_form opcode rd imm =
     opcode + rd * 128 + imm / 4096 % 256 * 4096 + imm / 2048 % 2 * 1048576 + imm / 2 % 1024 * 2097152 + imm / 1048576 * 2147483648
 
-abbrev pub word_of : Instr → ℕ
-word_of (Upper op rd imm) = (upper_row op).codes.opcode + rd * 128 + imm * 4096
-word_of (Jal rd offset) = j_form JAL rd (field_of 1048576 offset)
-word_of (Jalr rd rs1 imm) = i_form JALR rd 0 rs1 (field_of 2048 imm)
-word_of (Branch op rs1 rs2 offset) =
+abbrev pub instr_word : Instr → ℕ
+instr_word (Upper op rd imm) = (upper_row op).codes.opcode + rd * 128 + imm * 4096
+instr_word (Jal rd offset) = j_form JAL rd (field_of 1048576 offset)
+instr_word (Jalr rd rs1 imm) = i_form JALR rd 0 rs1 (field_of 2048 imm)
+instr_word (Branch op rs1 rs2 offset) =
     b_form (branch_row op).codes.opcode (branch_row op).codes.funct3 rs1 rs2 (field_of 4096 offset)
-word_of (Load op rd rs1 imm) =
+instr_word (Load op rd rs1 imm) =
     i_form (load_row op).codes.opcode rd (load_row op).codes.funct3 rs1 (field_of 2048 imm)
-word_of (Store op rs1 rs2 imm) =
+instr_word (Store op rs1 rs2 imm) =
     s_form (store_row op).codes.opcode (store_row op).codes.funct3 rs1 rs2 (field_of 2048 imm)
-word_of (Imm op rd rs1 imm) =
+instr_word (Imm op rd rs1 imm) =
     i_form (imm_row op).codes.opcode rd (imm_row op).codes.funct3 rs1 (field_of 2048 imm)
-word_of (Shift op rd rs1 amount) =
+instr_word (Shift op rd rs1 amount) =
     i_form (shift_row op).codes.opcode rd (shift_row op).codes.funct3 rs1 (amount + (shift_row op).codes.top * 64)
-word_of (Reg op rd rs1 rs2) =
+instr_word (Reg op rd rs1 rs2) =
     i_form (reg_row op).codes.opcode rd (reg_row op).codes.funct3 rs1 (rs2 + (reg_row op).codes.top * 32)
-word_of (Fence rd rs1 bits) = i_form MISC_MEM rd 0 rs1 bits
-word_of Ecall = 0x00000073
-word_of Ebreak = 0x00100073
-word_of PersistBarrier = 0x0000000b
-word_of NewStrand = 0x0000100b
-word_of JoinStrand = 0x0000200b
+instr_word (Fence rd rs1 bits) = i_form MISC_MEM rd 0 rs1 bits
+instr_word Ecall = 0x00000073
+instr_word Ebreak = 0x00100073
+instr_word PersistBarrier = 0x0000000b
+instr_word NewStrand = 0x0000100b
+instr_word JoinStrand = 0x0000200b
 
 -- every field is in its range
 abbrev pub IsValid : Instr → Type 0

@@ -1,6 +1,6 @@
 ghost use Rattle.std.specs.Prelude.{◌≡◌, ◌↔◌, ◌<◌, MatchResult, IsOk, None, Some};
 ghost use Rattle.strand_isa.specs.Word.{IsValid};
-ghost use Rattle.strand_isa.specs.Faults.{below, even_range_fault, fault_of, first_of, range_fault};
+ghost use Rattle.strand_isa.specs.Faults.{fault_unless_below, even_range_fault, fault_of, first_of, range_fault};
 ghost use Rattle.strand_isa.specs.declared.fault.Field.{Field};
 
 use crate::fault::{Field, FieldFault};
@@ -9,7 +9,7 @@ use crate::ops::amount_bound;
 
 /// The fault of a field that has to be below `bound`.
 fn below(field: Field, bound: u32, n: u32) -> Option<FieldFault>
-    ensures { result ≡ below field bound n }
+    ensures { result ≡ fault_unless_below field bound n }
 {
     if n < bound {
         None
@@ -53,7 +53,7 @@ fn even_range_fault(field: Field, half: u32, z: i32) -> Option<FieldFault>
 
 /// The fault of a field that names a register.
 fn register(field: Field, n: u8) -> Option<FieldFault>
-    ensures { result ≡ below field 32 n }
+    ensures { result ≡ fault_unless_below field 32 n }
 {
     below(field, 32, u32::from(n))
 }
@@ -70,7 +70,7 @@ fn first(a: Option<FieldFault>, b: Option<FieldFault>) -> Option<FieldFault>
 
 /// The fault of two fields that name registers.
 fn registers(one: Field, n: u8, other: Field, m: u8) -> Option<FieldFault>
-    ensures { result ≡ first_of (below one 32 n) (below other 32 m) }
+    ensures { result ≡ first_of (fault_unless_below one 32 n) (fault_unless_below other 32 m) }
 {
     first(register(one, n), register(other, m))
 }

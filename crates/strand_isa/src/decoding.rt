@@ -1,6 +1,6 @@
 ghost use Rattle.std.specs.Prelude.{◌≡◌, ℕ, ◌+◌, ◌*◌, ◌/◌, ◌%◌, ◌<◌, IfSome, Some};
 ghost use Rattle.strand_isa.specs.Decode.{branch_at, fence_at, imm_at, immediate_at, instr_of, j_immediate, jalr_at, load_at, rd_of, reg_at, shift_at, signed_of, store_at, upper_at};
-ghost use Rattle.strand_isa.specs.Word.{IsValid, IsInRange, field_of, word_of};
+ghost use Rattle.strand_isa.specs.Word.{IsValid, IsInRange, field_of, instr_word};
 ghost use Rattle.strand_isa.specs.declared.instr.Instr.TheVariants.{Jal};
 
 use crate::finding::{
@@ -40,7 +40,7 @@ fn register(word: u32, place: u32) -> u8
 fn decode_upper(word: u32) -> Option<Instr>
     ensures value { result ≡ upper_at word }
     ensures valid { IfSome result IsValid }
-    ensures word { IfSome result (λ i. word_of i ≡ word) }
+    ensures word { IfSome result (λ i. instr_word i ≡ word) }
 {
     let op = upper_with(word % 128)?;
     let rd = register(word, 128);
@@ -55,7 +55,7 @@ fn decode_jal(word: u32) -> Option<Instr>
     requires { word % 128 ≡ JAL }
     ensures value { result ≡ Some (Jal (rd_of word) (j_immediate word)) }
     ensures valid { IfSome result IsValid }
-    ensures word { IfSome result (λ i. word_of i ≡ word) }
+    ensures word { IfSome result (λ i. instr_word i ≡ word) }
 {
     let rd = register(word, 128);
     let field = word / 4096 % 256 * 4096
@@ -71,7 +71,7 @@ fn decode_jalr(word: u32) -> Option<Instr>
     requires { word % 128 ≡ JALR }
     ensures value { result ≡ jalr_at word }
     ensures valid { IfSome result IsValid }
-    ensures word { IfSome result (λ i. word_of i ≡ word) }
+    ensures word { IfSome result (λ i. instr_word i ≡ word) }
 {
     if word / 4096 % 8 != 0 {
         return None;
@@ -86,7 +86,7 @@ fn decode_jalr(word: u32) -> Option<Instr>
 fn decode_branch(word: u32) -> Option<Instr>
     ensures value { result ≡ branch_at word }
     ensures valid { IfSome result IsValid }
-    ensures word { IfSome result (λ i. word_of i ≡ word) }
+    ensures word { IfSome result (λ i. instr_word i ≡ word) }
 {
     let op = branch_with(word % 128, word / 4096 % 8)?;
     let rs1 = register(word, 32768);
@@ -108,7 +108,7 @@ fn decode_branch(word: u32) -> Option<Instr>
 fn decode_load(word: u32) -> Option<Instr>
     ensures value { result ≡ load_at word }
     ensures valid { IfSome result IsValid }
-    ensures word { IfSome result (λ i. word_of i ≡ word) }
+    ensures word { IfSome result (λ i. instr_word i ≡ word) }
 {
     let op = load_with(word % 128, word / 4096 % 8)?;
     let rd = register(word, 128);
@@ -121,7 +121,7 @@ fn decode_load(word: u32) -> Option<Instr>
 fn decode_store(word: u32) -> Option<Instr>
     ensures value { result ≡ store_at word }
     ensures valid { IfSome result IsValid }
-    ensures word { IfSome result (λ i. word_of i ≡ word) }
+    ensures word { IfSome result (λ i. instr_word i ≡ word) }
 {
     let op = store_with(word % 128, word / 4096 % 8)?;
     let rs1 = register(word, 32768);
@@ -134,7 +134,7 @@ fn decode_store(word: u32) -> Option<Instr>
 fn decode_imm(word: u32) -> Option<Instr>
     ensures value { result ≡ imm_at word }
     ensures valid { IfSome result IsValid }
-    ensures word { IfSome result (λ i. word_of i ≡ word) }
+    ensures word { IfSome result (λ i. instr_word i ≡ word) }
 {
     let op = imm_with(word % 128, word / 4096 % 8)?;
     let rd = register(word, 128);
@@ -147,7 +147,7 @@ fn decode_imm(word: u32) -> Option<Instr>
 fn decode_shift(word: u32) -> Option<Instr>
     ensures value { result ≡ shift_at word }
     ensures valid { IfSome result IsValid }
-    ensures word { IfSome result (λ i. word_of i ≡ word) }
+    ensures word { IfSome result (λ i. instr_word i ≡ word) }
 {
     let op = shift_with(word % 128, word / 4096 % 8, word / 67108864)?;
     let amount = (word / 1048576 % 64) as u8;
@@ -168,7 +168,7 @@ fn decode_shift(word: u32) -> Option<Instr>
 fn decode_reg(word: u32) -> Option<Instr>
     ensures value { result ≡ reg_at word }
     ensures valid { IfSome result IsValid }
-    ensures word { IfSome result (λ i. word_of i ≡ word) }
+    ensures word { IfSome result (λ i. instr_word i ≡ word) }
 {
     let op = reg_with(word % 128, word / 4096 % 8, word / 33554432)?;
     let rd = register(word, 128);
@@ -182,7 +182,7 @@ fn decode_fence(word: u32) -> Option<Instr>
     requires { word % 128 ≡ MISC_MEM }
     ensures value { result ≡ fence_at word }
     ensures valid { IfSome result IsValid }
-    ensures word { IfSome result (λ i. word_of i ≡ word) }
+    ensures word { IfSome result (λ i. instr_word i ≡ word) }
 {
     if word / 4096 % 8 != 0 {
         return None;
@@ -197,7 +197,7 @@ fn decode_fence(word: u32) -> Option<Instr>
 fn decode_immediate(word: u32) -> Option<Instr>
     ensures value { result ≡ immediate_at word }
     ensures valid { IfSome result IsValid }
-    ensures word { IfSome result (λ i. word_of i ≡ word) }
+    ensures word { IfSome result (λ i. instr_word i ≡ word) }
 {
     let funct3 = word / 4096 % 8;
     if funct3 == 1 || funct3 == 5 {
@@ -212,7 +212,7 @@ fn decode_immediate(word: u32) -> Option<Instr>
 fn read(word: u32) -> Option<Instr>
     ensures value { result ≡ instr_of word }
     ensures valid { IfSome result IsValid }
-    ensures word { IfSome result (λ i. word_of i ≡ word) }
+    ensures word { IfSome result (λ i. instr_word i ≡ word) }
 {
     match word % 128 {
         LUI | AUIPC => decode_upper(word),
@@ -243,8 +243,8 @@ fn read(word: u32) -> Option<Instr>
 pub fn decode(word: u32) -> Option<Instr>
     ensures value { result ≡ instr_of word }
     ensures valid { IfSome result IsValid }
-    ensures word { IfSome result (λ i. word_of i ≡ word) }
-    ensures every { (i : Instr) → IsValid i → word_of i ≡ word → result ≡ Some i }
+    ensures word { IfSome result (λ i. instr_word i ≡ word) }
+    ensures every { (i : Instr) → IsValid i → instr_word i ≡ word → result ≡ Some i }
 {
     read(word)
 }

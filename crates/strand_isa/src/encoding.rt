@@ -1,7 +1,7 @@
 ghost use Rattle.std.specs.Prelude.{◌≡◌, ◌+◌, ◌*◌, ◌/◌, ◌%◌, ◌<◌, Some};
 ghost use Rattle.strand_isa.specs.Decode.{instr_of};
 ghost use Rattle.strand_isa.specs.Ops.{AreSmallCodes};
-ghost use Rattle.strand_isa.specs.Word.{IsValid, IsInRange, b_form, field_of, i_form, j_form, s_form, word_of};
+ghost use Rattle.strand_isa.specs.Word.{IsValid, IsInRange, b_form, field_of, i_form, j_form, s_form, instr_word};
 
 use crate::instr::Instr;
 use crate::opcodes::{JAL, JALR, MISC_MEM};
@@ -98,7 +98,7 @@ fn j_form(opcode: u32, rd: u8, imm: u32) -> u32
 /// The fields of an instruction, each at its place.
 fn placed(i: &Instr) -> u32
     requires { IsValid i.now }
-    ensures { result ≡ word_of i.now }
+    ensures { result ≡ instr_word i.now }
 {
     match *i {
         Instr::Upper { op, rd, imm } => upper_row(op).1.opcode + u32::from(rd) * 128 + imm * 4096,
@@ -144,7 +144,7 @@ fn placed(i: &Instr) -> u32
 /// The word of an instruction whose fields are in their ranges (RISC-V Unprivileged ISA, RV64I).
 pub fn encode(i: &Instr) -> u32
     requires { IsValid i.now }
-    ensures word { result ≡ word_of i.now }
+    ensures word { result ≡ instr_word i.now }
     ensures back { instr_of result ≡ Some i.now }
 {
     placed(i)

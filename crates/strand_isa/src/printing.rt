@@ -2,7 +2,7 @@ ghost use Rattle.std.specs.Prelude.{◌≡◌, ◌++◌, ◌∷◌, [], ◌==◌
 ghost use Rattle.std.specs.List.{position_or_len};
 ghost use Rattle.strand_base.specs.Puts.{Puts};
 ghost use Rattle.strand_isa.specs.Print.{Prints, instr_text, one, part_text, short_hex, three, two};
-ghost use Rattle.strand_isa.specs.Word.{IsValid, word_of};
+ghost use Rattle.strand_isa.specs.Word.{IsValid, instr_word};
 
 use crate::encoding::encode;
 use crate::instr::Instr;
@@ -165,7 +165,8 @@ fn print_word(into: &mut Vec<u8>, name: &str) -> Result<bool, OutOfMemory>
 
 fn print_fence(into: &mut Vec<u8>, i: &Instr) -> Result<bool, OutOfMemory>
     requires { IsValid i.now }
-    ensures { Prints result (if word_of i.now == 0x0ff0000f then Some (codes "fence") else None) into.old.items into.new.items }
+    ensures { Prints result (if instr_word i.now == 0x0ff0000f then Some (codes "fence") else None)
+        into.old.items into.new.items }
 {
     if encode(i) == 0x0ff0000f {
         print_word(into, "fence")

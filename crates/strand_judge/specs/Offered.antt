@@ -31,8 +31,8 @@ abbrev pub nexts_after : Event → ℕ → List ℕ → List ℕ → List ℕ
 nexts_after e k firsts nexts = if is_persist e then slice_set nexts k (slice_index firsts (persistent_place (word_of e))) else nexts
 
 -- the first persist with the found value
-abbrev pub firsts_after : Event → ℕ → List ℕ → List ℕ → List ℕ
-firsts_after e k found firsts = if is_persist e && (value_of e == slice_index found (persistent_place (word_of e))) then slice_set firsts (persistent_place (word_of e)) (k + 1) else firsts
+abbrev pub first_offers_after : Event → ℕ → List ℕ → List ℕ → List ℕ
+first_offers_after e k found firsts = if is_persist e && (value_of e == slice_index found (persistent_place (word_of e))) then slice_set firsts (persistent_place (word_of e)) (k + 1) else firsts
 
 -- one more than the persist that event j asks for, where its value isn't the found one, or 0
 abbrev pub asked_of : Event → ℕ → List ℕ → List ℕ → ℕ

@@ -5,7 +5,7 @@ ghost use Rattle.strand_events.specs.Trace.{is_persist, word_of};
 ghost use Rattle.strand_base.specs.Places.{persistent_place};
 ghost use Rattle.strand_events.specs.Places.{LieIn};
 ghost use Rattle.strand_judge.specs.Words.{crash_of};
-ghost use Rattle.strand_judge.specs.Offered.{nexts_after, firsts_after, asked_of, AreOffered};
+ghost use Rattle.strand_judge.specs.Offered.{nexts_after, first_offers_after, asked_of, AreOffered};
 
 use crate::images::persistent_place;
 use std::alloc::Global;
@@ -26,8 +26,10 @@ fn note(offered: &mut Offered, e: Event, k: usize, found: &[u64])
     requires firsts { length offered.old.firsts.items ≡ length found.now }
     requires nexts { k < length offered.old.nexts.items }
     requires small { k + 1 < 2 ^ 32 }
-    ensures nexts { offered.new.nexts.items ≡ nexts_after e k offered.old.firsts.items offered.old.nexts.items }
-    ensures firsts { offered.new.firsts.items ≡ firsts_after e k found.now offered.old.firsts.items }
+    ensures nexts { offered.new.nexts.items
+        ≡ nexts_after e k offered.old.firsts.items offered.old.nexts.items }
+    ensures firsts { offered.new.firsts.items
+        ≡ first_offers_after e k found.now offered.old.firsts.items }
 {
     if e.is_persist() {
         let place = persistent_place(e.word());

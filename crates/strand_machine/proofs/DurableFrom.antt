@@ -1,5 +1,5 @@
 -- Serves clause parts of Machine::step at a write: a core's first persists that are all durable, one by one.
-use Rattle.std.proofs.Common.{◌≡◌, ℕ, zero, suc, ◌+◌, ◌≤◌, Bool, true, false, inl, inr, List, [], ◌∷◌, length, refl, arith}
+use Rattle.std.proofs.Common.{◌≡◌, ℕ, zero, suc, ◌+◌, ◌≤◌, Bool, true, false, inl, inr, List, [], ◌∷◌, refl, arith}
 use Rattle.std.specs.Prelude.{slice_get}
 use Rattle.std.proofs.lemmas.Bool.{cases_Bool, false≢true}
 use Rattle.strand_events.specs.Order.{set_of}
@@ -25,11 +25,4 @@ durable_here durable (n ∷ numbers) (suc k) le not_ = elim (cases_Bool (set_of 
       let first : durable_first durable (n ∷ numbers) ≡ suc (durable_first durable numbers) = rw yes_ refl in
       let same = durable_here durable numbers k (omega (arith, first, le)) not_ in omega (arith, same, first)
   | inr no_ ↦ let first : durable_first durable (n ∷ numbers) ≡ 0 = rw no_ refl in absurd (omega (arith, first, le))
-]
-
-pub durable_most : (durable : List Bool) (numbers : List ℕ) → durable_first durable numbers ≤ length numbers
-durable_most durable [] = omega arith
-durable_most durable (n ∷ numbers) = elim (cases_Bool (set_of durable n)) [
-  | inl yes_ ↦ rw yes_ (let most = durable_most durable numbers in omega (arith, most))
-  | inr no_ ↦ rw no_ (omega arith)
 ]

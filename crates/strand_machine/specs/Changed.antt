@@ -15,7 +15,7 @@ use Rattle.strand_events.specs.Vectors.{waits_after}
 use Rattle.strand_queue.specs.declared.item.Item.{Item}
 use Rattle.strand_queue.specs.declared.item.Item.TheVariants.{Persist, Barrier, NewStrand}
 use Rattle.strand_queue.specs.Queue.{Queue, queue}
-use Rattle.strand_buffer.specs.Buffers.{Buffers, accepted, begun, can_begin, empty_buffers, has_room, released, sent}
+use Rattle.strand_buffer.specs.Buffers.{Buffers, accepted, strand_begun, can_begin, empty_buffers, has_room, released, sent}
 use Rattle.strand_control.specs.declared.request.Request.{Request}
 use Rattle.strand_tags.specs.Access.{Noted}
 use Rattle.strand_tags.specs.TagsSeen.{TagsSeen, StandFor}
@@ -23,7 +23,7 @@ use Rattle.strand_tags.specs.WaitEntries.{wait_entry, no_waits}
 use Rattle.strand_cache.specs.declared.change.Change.{Change}
 use Rattle.strand_cache.specs.declared.change.Change.TheVariants.{Read, Merge}
 use Rattle.strand_cache.specs.Changes.{memory_after}
-use Rattle.strand_cache.specs.Seen.{Seen, IsAccess, counted, counts_seen, empty_caches, shape_seen}
+use Rattle.strand_cache.specs.Seen.{Seen, IsAccess, access_counted, counts_seen, empty_caches, shape_seen}
 use Rattle.strand_events.specs.Waits.{each_core}
 use Rattle.strand_machine.specs.Stand.{PartsSeen, Tally, queue_at, buffers_at, tally_at}
 
@@ -99,7 +99,7 @@ pub record IsCached (old new : Seen) (n word : ℕ) (change : Change) : Type 0 w
   pub cores : new.cores ≡ old.cores
   pub shape : shape_seen new ≡ shape_seen old
   pub memory : new.memory ≡ memory_after change word old.memory
-  pub counts : new.counts ≡ slice_set old.counts n (counted hits (counts_seen old n))
+  pub counts : new.counts ≡ slice_set old.counts n (access_counted hits (counts_seen old n))
   pub access : IsAccess old new n word change hits
 
 -- what an instruction of core n with this plan makes of the caches
@@ -118,7 +118,7 @@ CanTake bs NewStrand = (can_begin bs ≡ true) × (bs.strand < 2 ^ 32 - 1)
 abbrev pub taken : Buffers → Item → List ℕ → Buffers
 taken bs (Persist number word value epoch) wait = accepted bs number word value epoch wait
 taken bs Barrier wait = bs
-taken bs NewStrand wait = begun bs
+taken bs NewStrand wait = strand_begun bs
 
 -- the wait that is kept of an item, where it is a persist
 abbrev pub wait_at : PartsSeen → Item → List ℕ

@@ -2,8 +2,7 @@
 use Rattle.std.specs.Prelude.{ℕ, Bool, ◌&&◌, ◌==◌, List, length, map, if◌then◌else◌}
 use Rattle.strand_base.specs.Counting.{count_below, list_below}
 use Rattle.strand_inputs.specs.Settings.{Settings}
-use Rattle.strand_events.specs.declared.event.Event.{Event}
-use Rattle.strand_events.specs.Trace.{is_persist, is_new_strand, word_at, value_at, event_is, strand_number, epoch}
+use Rattle.strand_events.specs.Trace.{is_new_strand, word_at, value_at, event_is, strand_number, epoch, persist_number}
 use Rattle.strand_events.specs.Order.{set_of}
 use Rattle.strand_rules.specs.Cycle.{State, is_dispatched, is_accepted, buffer_of}
 use Rattle.strand_buffer.specs.declared.entry.Entry.{Entry}
@@ -11,10 +10,6 @@ use Rattle.strand_buffer.specs.declared.entry.Stage.{Stage}
 use Rattle.strand_buffer.specs.declared.entry.Stage.TheVariants.{Buffered, Sent, Released}
 use Rattle.strand_buffer.specs.Entries.{from_open}
 use Rattle.strand_tags.specs.Traces.{noted_wait}
-
--- event p's number among the persists
-abbrev pub persist_number : List Event → ℕ → ℕ
-persist_number t p = count_below p (event_is is_persist t)
 
 -- event p is a dispatched persist of core n whose strand is that of buffer b
 abbrev pub is_of_buffer : Settings → State → ℕ → ℕ → ℕ → Bool

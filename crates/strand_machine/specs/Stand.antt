@@ -7,7 +7,7 @@ use Rattle.strand_inputs.specs.declared.conflict.Conflict.TheVariants.{Tag}
 use Rattle.strand_inputs.specs.Settings.{Settings}
 use Rattle.strand_exec.specs.Core.{Extents}
 use Rattle.strand_events.specs.declared.event.Event.{Event}
-use Rattle.strand_events.specs.Trace.{is_access, is_persist, is_barrier, persists_of, core_at, word_at, value_at, event_is, core_event_is, strand_number, epoch}
+use Rattle.strand_events.specs.Trace.{is_access, is_persist, is_barrier, persists_of, core_at, word_at, value_at, event_is, core_event_is, strand_number, epoch, persist_number}
 use Rattle.strand_events.specs.Order.{set_of}
 use Rattle.strand_events.specs.Prefixes.{core_persists, durable_prefix, made_below}
 use Rattle.strand_events.specs.Waits.{each_core}
@@ -24,7 +24,7 @@ use Rattle.strand_tags.specs.Traces.{noted_accesses, noted_wait}
 use Rattle.strand_tags.specs.WaitEntries.{KeepsWaits, no_waits}
 use Rattle.strand_tags.specs.declared.core_waits.CoreWaits.{CoreWaits}
 use Rattle.strand_cache.specs.Seen.{Seen}
-use Rattle.strand_machine.specs.Lists.{persist_number, entries, begun}
+use Rattle.strand_machine.specs.Lists.{entries, begun}
 use Rattle.strand_machine.specs.Cached.{CacheStands}
 
 -- event k, which is an item, as a queue holds it

@@ -45,9 +45,9 @@ impl Model for Parts {
 
     ghost Value = { PartsSeen };
 
-    ghost use Rattle.strand_machine.specs.KeptParts.{parts_of};
+    ghost use Rattle.strand_machine.specs.KeptParts.{parts_seen};
 
-    ghost view = { parts_of };
+    ghost view = { parts_seen };
 }
 
 impl Parts {

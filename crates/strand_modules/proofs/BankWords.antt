@@ -9,7 +9,7 @@ use Rattle.std.specs.Option.{option_map}
 use Rattle.std.specs.declared.option.Option.{Option}
 use Rattle.std.proofs.lemmas.List.FromFn.{fill_by_all, get_or-map-range_with_len, length-map-range_with_len}
 use Rattle.strand_base.specs.ModuleSeen.{ModuleSeen, written}
-use Rattle.strand_modules.specs.ModuleWords.{part_size, told_by_all, word_at, told_words}
+use Rattle.strand_modules.specs.ModuleWords.{part_size, told_by_all, bank_word, told_words}
 
 pub part_size-le : (ms : List ModuleSeen) (k : ℕ) (d : ModuleSeen) → k < length ms → part_size ms ≤ (get_or ms k d).size
 part_size-le [] k d h = absurd (omega arith)
@@ -97,11 +97,11 @@ module _ (parts : List (List ℕ)) (i value n : ℕ) (some : 0 < length parts) (
   index : i % length parts < length parts
   index = omega arith
 
-  word_at-here : word_at after i ≡ value
+  word_at-here : bank_word after i ≡ value
   unfolding after
   word_at-here = rw length-after (rw (get_or-set_same parts (i % length parts) (set (get_or parts (i % length parts) []) (i / length parts) value) [] index) (get_or-set_same _ _ _ _ inside))
 
-  word_at-elsewhere : (j : ℕ) → j ≢ i → word_at after j ≡ word_at parts j
+  word_at-elsewhere : (j : ℕ) → j ≢ i → bank_word after j ≡ bank_word parts j
   unfolding after
   word_at-elsewhere j ne =
       rw length-after (elim (eqb_tells (j % length parts) (i % length parts)) [
@@ -112,17 +112,17 @@ module _ (parts : List (List ℕ)) (i value n : ℕ) (some : 0 < length parts) (
         | inr other ↦ rw (get_or-set_other parts (i % length parts) (j % length parts) (set (get_or parts (i % length parts) []) (i / length parts) value) [] other.1) refl
       ])
 
-  words_after : set (map (word_at parts) (range_with_len 0 n)) i value ≡ map (word_at after) (range_with_len 0 n)
+  words_after : set (map (bank_word parts) (range_with_len 0 n)) i value ≡ map (bank_word after) (range_with_len 0 n)
   words_after =
-      fill_by_all (word_at after) (set (map (word_at parts) (range_with_len 0 n)) i value) n 0
-      (length-set (map (word_at parts) (range_with_len 0 n)) i value ∙ length-map-range_with_len (word_at parts) 0 n)
+      fill_by_all (bank_word after) (set (map (bank_word parts) (range_with_len 0 n)) i value) n 0
+      (length-set (map (bank_word parts) (range_with_len 0 n)) i value ∙ length-map-range_with_len (bank_word parts) 0 n)
       (λ j h. elim (eqb_tells j i) [
         | inl same ↦
-            let room : i < length (map (word_at parts) (range_with_len 0 n)) = rw (length-map-range_with_len (word_at parts) 0 n) below in
-            rw same.1 (get_or-set_same (map (word_at parts) (range_with_len 0 n)) i value 0 room ∙ sym word_at-here)
+            let room : i < length (map (bank_word parts) (range_with_len 0 n)) = rw (length-map-range_with_len (bank_word parts) 0 n) below in
+            rw same.1 (get_or-set_same (map (bank_word parts) (range_with_len 0 n)) i value 0 room ∙ sym word_at-here)
         | inr other ↦
-            get_or-set_other (map (word_at parts) (range_with_len 0 n)) i j value 0 other.1
-            ∙ get_or-map-range_with_len (word_at parts) 0 n j j 0 h (omega arith)
+            get_or-set_other (map (bank_word parts) (range_with_len 0 n)) i j value 0 other.1
+            ∙ get_or-map-range_with_len (bank_word parts) 0 n j j 0 h (omega arith)
             ∙ sym (word_at-elsewhere j other.1)
       ])
 
@@ -139,17 +139,17 @@ pub told_words-value : (ms : List ModuleSeen) (i value : ℕ) (d : ModuleSeen) �
 unfolding told_words
 told_words-value ms i value d some h read = go (told_by_all ms) refl
   where
-    go : (all : Option (List (List ℕ))) → told_by_all ms ≡ all → IfSome (option_map (λ parts. map (word_at parts) (range_with_len 0 (part_size ms * length ms))) all) (λ words. slice_get words i ≡ Some value)
+    go : (all : Option (List (List ℕ))) → told_by_all ms ≡ all → IfSome (option_map (λ parts. map (bank_word parts) (range_with_len 0 (part_size ms * length ms))) all) (λ words. slice_get words i ≡ Some value)
     go None e = tt
     go (Some parts) e =
         let lengths : length parts ≡ length ms = length-told_by_all ms parts e in
         let index : i % length ms < length ms = omega arith in
         let part : (get_or ms (i % length ms) d).told ≡ Some (get_or parts (i % length ms) []) = told_by_all-at ms parts (i % length ms) d e index in
         let here : slice_get (get_or parts (i % length ms) []) (i / length ms) ≡ Some value = subst (λ told. IfSome told (λ words. slice_get words (i / length ms) ≡ Some value)) part read in
-        let word : word_at parts i ≡ value = rw lengths (get_or_from_slice_get (get_or parts (i % length ms) []) (i / length ms) value 0 here) in
-        let room : i < length (map (word_at parts) (range_with_len 0 (part_size ms * length ms))) = rw (length-map-range_with_len (word_at parts) 0 (part_size ms * length ms)) h in
-        slice_get-get_or (map (word_at parts) (range_with_len 0 (part_size ms * length ms))) i 0 room
-        ∙ ap Some (get_or-map-range_with_len (word_at parts) 0 (part_size ms * length ms) i i 0 h (omega arith) ∙ word)
+        let word : bank_word parts i ≡ value = rw lengths (get_or_from_slice_get (get_or parts (i % length ms) []) (i / length ms) value 0 here) in
+        let room : i < length (map (bank_word parts) (range_with_len 0 (part_size ms * length ms))) = rw (length-map-range_with_len (bank_word parts) 0 (part_size ms * length ms)) h in
+        slice_get-get_or (map (bank_word parts) (range_with_len 0 (part_size ms * length ms))) i 0 room
+        ∙ ap Some (get_or-map-range_with_len (bank_word parts) 0 (part_size ms * length ms) i i 0 h (omega arith) ∙ word)
 
 -- A write of one word of a module is a write of one word of the bank.
 pub told_words-written : (ms : List ModuleSeen) (i value : ℕ) (new : ModuleSeen) → 0 < length ms → i < part_size ms * length ms
@@ -164,8 +164,8 @@ told_words-written ms i value new some h size told change =
     (go (told_by_all ms) refl)
   where
     go : (all : Option (List (List ℕ))) → told_by_all ms ≡ all
-        → option_map (λ parts. map (word_at parts) (range_with_len 0 (part_size ms * length ms))) (option_map (part_written (i % length ms) (i / length ms) value) all)
-        ≡ written (option_map (λ parts. map (word_at parts) (range_with_len 0 (part_size ms * length ms))) all) i value
+        → option_map (λ parts. map (bank_word parts) (range_with_len 0 (part_size ms * length ms))) (option_map (part_written (i % length ms) (i / length ms) value) all)
+        ≡ written (option_map (λ parts. map (bank_word parts) (range_with_len 0 (part_size ms * length ms))) all) i value
     go None e = refl
     go (Some parts) e =
         let lengths : length parts ≡ length ms = length-told_by_all ms parts e in
@@ -175,7 +175,7 @@ told_words-written ms i value new some h size told change =
         let place : i / length ms < part_size ms = (div-lt_iff_lt-mul some).1 h in
         let inside : i / length parts < length (get_or parts (i % length parts) []) = rw lengths (omega (arith, long, part_size-le ms (i % length ms) new index)) in
         let some_part : 0 < length parts = omega arith in
-        subst (λ m. Some (map (word_at (part_written (i % m) (i / m) value parts)) (range_with_len 0 (part_size ms * length ms))) ≡ Some (set (map (word_at parts) (range_with_len 0 (part_size ms * length ms))) i value))
+        subst (λ m. Some (map (bank_word (part_written (i % m) (i / m) value parts)) (range_with_len 0 (part_size ms * length ms))) ≡ Some (set (map (bank_word parts) (range_with_len 0 (part_size ms * length ms))) i value))
         lengths (ap Some (sym (words_after parts i value (part_size ms * length ms) some_part h inside)))
 
 -- how many words are told
@@ -183,9 +183,9 @@ pub length-told_words : (ms : List ModuleSeen) → IfSome (told_words ms) (λ wo
 unfolding told_words
 length-told_words ms = go (told_by_all ms)
   where
-    go : (all : Option (List (List ℕ))) → IfSome (option_map (λ parts. map (word_at parts) (range_with_len 0 (part_size ms * length ms))) all) (λ words. length words ≡ part_size ms * length ms)
+    go : (all : Option (List (List ℕ))) → IfSome (option_map (λ parts. map (bank_word parts) (range_with_len 0 (part_size ms * length ms))) all) (λ words. length words ≡ part_size ms * length ms)
     go None = tt
-    go (Some parts) = length-map-range_with_len (word_at parts) 0 (part_size ms * length ms)
+    go (Some parts) = length-map-range_with_len (bank_word parts) 0 (part_size ms * length ms)
 
 -- A module that tells nothing leaves nothing told.
 told_by_all-none : (ms : List ModuleSeen) (k : ℕ) (after : ModuleSeen) → k < length ms → after.told ≡ None → told_by_all (set ms k after) ≡ None

@@ -1,9 +1,9 @@
 -- Serves ModuleBank::fill: what it has stored, word by word.
-use Rattle.std.proofs.Common.{◌≡◌, ℕ, suc, ◌+◌, ◌<◌, ◌≤◌, List, [], length, take, get_or, arith, refl, ap, ◌∙◌, add-one}
+use Rattle.std.proofs.Common.{◌≡◌, ℕ, ◌+◌, ◌<◌, ◌≤◌, List, length, take, get_or, arith, refl, ap, ◌∙◌, add-one}
 use Rattle.std.proofs.lemmas.List.{take_all}
 use Rattle.std.specs.Prelude.{Ok, Err}
 use Rattle.strand_base.specs.ModuleSeen.{written}
-use Rattle.strand_modules.specs.Bank.{BankSeen, Keeps, Stores, Fills, fill_refused, front_written, stores_accepted, asked_first, asked}
+use Rattle.strand_modules.specs.Bank.{BankSeen, Keeps, Stores, Fills, fill_refused, as_before, front_written, stores_accepted, with_calls, with_call}
 use Rattle.strand_modules.specs.declared.refusals.AtModule.{AtModule}
 use Rattle.strand_modules.proofs.AcceptedCalls.{stores_none, stores_again}
 use Rattle.strand_modules.proofs.FrontWords.{front_more, front_none, keeps_same, keeps_trans, refuses_after}
@@ -14,25 +14,25 @@ pub record Filled (old new : BankSeen) (words : List ℕ) (i : ℕ) : Type 0 whe
   pub refused : new.refused ≡ old.refused
   pub told : new.told ≡ front_written (take i words) old.told
   pub accepted : new.accepted ≡ stores_accepted i old.accepted
-  pub calls : new.calls ≡ asked_first i old.calls
+  pub calls : new.calls ≡ with_calls i old.calls
   pub quiet : new.faults ≡ old.faults
 
 pub filled_none : (bank : BankSeen) (words : List ℕ) → Filled bank bank words 0
 filled_none bank words = record { kept = keeps_same bank; refused = refl; told = front_none bank.told; accepted = stores_none bank.accepted; calls = refl; quiet = refl }
 
 -- so many calls, and one more
-pub asked_more : (i : ℕ) (a b c : List ℕ) → b ≡ asked_first i a → c ≡ asked i b → c ≡ asked_first (i + 1) a
-asked_more i a b c first more = rw add-one (more ∙ ap (asked i) first)
+pub one_call_more : (i : ℕ) (a b c : List ℕ) → b ≡ with_calls i a → c ≡ with_call i b → c ≡ with_calls (i + 1) a
+one_call_more i a b c first more = rw add-one (more ∙ ap (with_call i) first)
 
 pub filled_more : (old middle new : BankSeen) (words : List ℕ) (i : ℕ) → i < length words → length words ≤ old.size → Filled old middle words i
-    → Stores {T = Unit {0}} fill_refused middle new i (get_or words i 0) (Ok tt) → Filled old new words (i + 1)
+    → Stores {T = Unit {0}} as_before middle new i (get_or words i 0) (Ok tt) → Filled old new words (i + 1)
 filled_more old middle new words i inside room filled stores = record {
   kept = keeps_trans old middle new filled.kept stores.kept;
   refused = stores.accepted ∙ filled.refused;
   told = stores.done ∙ ap (λ t. written t i (get_or words i 0)) filled.told
       ∙ front_more old.told words i middle.size inside (omega (arith, inside, filled.kept.size, room)) (rw filled.told at stores.whole);
   accepted = stores_again old.accepted middle.accepted new.accepted i 1 filled.accepted stores.counted;
-  calls = asked_more i old.calls middle.calls new.calls filled.calls stores.called;
+  calls = one_call_more i old.calls middle.calls new.calls filled.calls stores.called;
   quiet = stores.quiet ∙ filled.quiet;
 }
 
@@ -51,7 +51,7 @@ filled_until old middle new words i e inside filled stores = record {
     rw filled.kept.count at stores.refused.0,
     stores.same ∙ filled.told,
     stores.uncounted ∙ filled.accepted,
-    asked_more i old.calls middle.calls new.calls filled.calls stores.called,
+    one_call_more i old.calls middle.calls new.calls filled.calls stores.called,
     refuses_after fill_refused old middle new e.«module» filled.kept filled.refused stores.refused.1,
   );
 }

@@ -4,12 +4,12 @@ use Rattle.std.specs.Prelude.{Ok, Err, None, Some, IfSome, slice_get}
 use Rattle.std.specs.declared.option.Option.{Option}
 use Rattle.std.proofs.lemmas.List.{take_more}
 use Rattle.std.proofs.lemmas.Option.{get_or_from_slice_get, slice_get_within}
-use Rattle.strand_modules.specs.Bank.{BankSeen, Keeps, Loads, read_refused, reads_accepted, asked_first}
+use Rattle.strand_modules.specs.Bank.{BankSeen, Keeps, Loads, read_refused, reads_accepted, with_calls}
 use Rattle.strand_modules.specs.Reading.{ReadsAll}
 use Rattle.strand_modules.specs.declared.faults.ReadAllFault.TheVariants.{Module, OutOfMemory}
 use Rattle.strand_modules.specs.declared.refusals.AtModule.{AtModule}
 use Rattle.strand_modules.proofs.AcceptedCalls.{reads_none, reads_again}
-use Rattle.strand_modules.proofs.Fills.{asked_more}
+use Rattle.strand_modules.proofs.Fills.{one_call_more}
 use Rattle.strand_modules.proofs.FrontWords.{keeps_same, keeps_trans, refuses_after}
 
 -- the first i words were loaded
@@ -18,7 +18,7 @@ pub record Gathered (old new : BankSeen) (i : ℕ) : Type 0 where
   pub refused : new.refused ≡ old.refused
   pub same : new.told ≡ old.told
   pub accepted : new.accepted ≡ reads_accepted i old.accepted
-  pub calls : new.calls ≡ asked_first i old.calls
+  pub calls : new.calls ≡ with_calls i old.calls
   pub quiet : new.faults ≡ old.faults
 
 -- these words are the first
@@ -39,7 +39,7 @@ gathered_more old middle new i word gathered loads = record {
   refused = loads.accepted ∙ gathered.refused;
   same = loads.same ∙ gathered.same;
   accepted = reads_again old.accepted middle.accepted new.accepted i 1 gathered.accepted loads.counted;
-  calls = asked_more i old.calls middle.calls new.calls gathered.calls loads.called;
+  calls = one_call_more i old.calls middle.calls new.calls gathered.calls loads.called;
   quiet = loads.quiet ∙ gathered.quiet;
 }
 
@@ -73,7 +73,7 @@ gathered_until old middle new count i e inside gathered loads = record {
     inside,
     rw gathered.kept.count at loads.refused.0,
     loads.uncounted ∙ gathered.accepted,
-    asked_more i old.calls middle.calls new.calls gathered.calls loads.called,
+    one_call_more i old.calls middle.calls new.calls gathered.calls loads.called,
     refuses_after read_refused old middle new e.«module» gathered.kept gathered.refused loads.refused.1,
   );
 }

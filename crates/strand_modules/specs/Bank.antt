@@ -5,7 +5,7 @@ use Rattle.std.specs.declared.option.Option.{Option}
 use Rattle.std.specs.declared.result.Result.{Result}
 use Rattle.strand_base.specs.ModuleSeen.{ModuleSeen, written}
 use Rattle.strand_base.specs.Counts.{Rose, counted, next}
-use Rattle.strand_modules.specs.ModuleWords.{words_in, told_words}
+use Rattle.strand_modules.specs.ModuleWords.{word_count, told_words}
 use Rattle.strand_modules.specs.declared.refusals.Refusals.{Refusals}
 use Rattle.strand_modules.specs.declared.refusals.AtModule.{AtModule}
 use Rattle.strand_modules.specs.declared.accepted.Accepted.{Accepted}
@@ -29,7 +29,7 @@ pub record BankSeen : Type 0 where
 -- the bank of these modules, with what they refused and accepted
 abbrev pub bank_of : List ModuleSeen → List Refusals → Accepted → BankSeen
 bank_of parts refused accepted = record {
-  size = words_in parts;
+  size = word_count parts;
   sizes = map (λ m. m.size) parts;
   told = told_words parts;
   faults = map (λ m. m.faults) parts;
@@ -50,6 +50,10 @@ reads_accepted more a = record a { reads = counted more a.reads }
 abbrev pub stores_accepted : ℕ → Accepted → Accepted
 stores_accepted more a = record a { stores = counted more a.stores }
 
+-- no refusal is counted
+abbrev pub as_before : Refusals → Refusals
+as_before r = r
+
 abbrev pub fill_refused : Refusals → Refusals
 fill_refused r = record r { fills = counted 1 r.fills }
 
@@ -60,13 +64,13 @@ abbrev pub read_refused : Refusals → Refusals
 read_refused r = record r { reads = counted 1 r.reads }
 
 -- one call more of the module that has word i
-abbrev pub asked : ℕ → List ℕ → List ℕ
-asked i calls = slice_set calls (i % length calls) (next (slice_index calls (i % length calls)))
+abbrev pub with_call : ℕ → List ℕ → List ℕ
+with_call i calls = slice_set calls (i % length calls) (next (slice_index calls (i % length calls)))
 
 -- one for each of the first n words, in order
-abbrev pub asked_first : ℕ → List ℕ → List ℕ
-asked_first zero calls = calls
-asked_first (suc n) calls = asked n (asked_first n calls)
+abbrev pub with_calls : ℕ → List ℕ → List ℕ
+with_calls zero calls = calls
+with_calls (suc n) calls = with_call n (with_calls n calls)
 
 -- no call changes the number of words or of modules, and no count of faults falls
 pub record Keeps (old new : BankSeen) : Type 0 where
@@ -86,7 +90,7 @@ pub record Loads (old new : BankSeen) (i : ℕ) (result : Result ℕ AtModule) :
   pub kept : Keeps old new
   pub same : new.told ≡ old.told
   pub value : IfOk result (λ value. IfSome old.told (λ words. slice_get words i ≡ Some value))
-  pub called : new.calls ≡ asked i old.calls
+  pub called : new.calls ≡ with_call i old.calls
   pub quiet : OnOk result (new.faults ≡ old.faults)
   pub accepted : OnOk result (new.refused ≡ old.refused)
   pub counted : OnOk result (new.accepted ≡ reads_accepted 1 old.accepted)
@@ -98,7 +102,7 @@ pub record Stores {T : Type 0} (count : Refusals → Refusals) (old new : BankSe
   pub kept : Keeps old new
   -- what is told is all the words
   pub whole : IfSome old.told (λ words. length words ≡ old.size)
-  pub called : new.calls ≡ asked i old.calls
+  pub called : new.calls ≡ with_call i old.calls
   pub quiet : OnOk result (new.faults ≡ old.faults)
   pub done : OnOk result (new.told ≡ written old.told i value)
   pub accepted : OnOk result (new.refused ≡ old.refused)
@@ -115,11 +119,11 @@ front_written front told = option_map (λ words. front ++ drop (length front) wo
 pub record Fills {T : Type 0} (old new : BankSeen) (words : List ℕ) (result : Result T AtModule) : Type 0 where
   pub kept : Keeps old new
   pub done : OnOk result (new.told ≡ front_written words old.told)
-  pub called : OnOk result (new.calls ≡ asked_first (length words) old.calls)
+  pub called : OnOk result (new.calls ≡ with_calls (length words) old.calls)
   pub quiet : OnOk result (new.faults ≡ old.faults)
   pub accepted : OnOk result (new.refused ≡ old.refused)
   pub counted : OnOk result (new.accepted ≡ stores_accepted (length words) old.accepted)
   -- the words before the refused one are stored, and none behind it was asked for
   pub refused : IfErr result (λ e. (n : ℕ) × (n < length words) × (e.«module» ≡ n % length old.faults)
       × (new.told ≡ front_written (take n words) old.told) × (new.accepted ≡ stores_accepted n old.accepted)
-      × (new.calls ≡ asked_first (n + 1) old.calls) × Refuses fill_refused old new e.«module»)
+      × (new.calls ≡ with_calls (n + 1) old.calls) × Refuses fill_refused old new e.«module»)

@@ -1,16 +1,16 @@
 -- A read of the bank's first words.
 use Rattle.std.specs.Prelude.{◌≡◌, ℕ, ◌+◌, ◌%◌, ◌<◌, ◌≤◌, List, length, take, IfOk, IfErr, IfSome, OnOk}
 use Rattle.std.specs.declared.result.Result.{Result}
-use Rattle.strand_modules.specs.Bank.{BankSeen, Keeps, Refuses, read_refused, reads_accepted, asked_first}
+use Rattle.strand_modules.specs.Bank.{BankSeen, Keeps, Refuses, read_refused, reads_accepted, with_calls}
 use Rattle.strand_modules.specs.declared.faults.ReadAllFault.{ReadAllFault}
 use Rattle.strand_modules.specs.declared.faults.ReadAllFault.TheVariants.{Module, OutOfMemory}
 
 -- Word n was refused, by its module; or there was no memory for the words that were read.
 abbrev pub ReadFails : BankSeen → BankSeen → ℕ → ReadAllFault → Type 0
 ReadFails old new count (Module e) = (n : ℕ) × (n < count) × (e.«module» ≡ n % length old.faults) × (new.accepted ≡ reads_accepted n old.accepted)
-    × (new.calls ≡ asked_first (n + 1) old.calls) × Refuses read_refused old new e.«module»
+    × (new.calls ≡ with_calls (n + 1) old.calls) × Refuses read_refused old new e.«module»
 ReadFails old new count OutOfMemory = (new.refused ≡ old.refused) × (new.faults ≡ old.faults)
-    × ((n : ℕ) × (n ≤ count) × (new.accepted ≡ reads_accepted n old.accepted) × (new.calls ≡ asked_first n old.calls))
+    × ((n : ℕ) × (n ≤ count) × (new.accepted ≡ reads_accepted n old.accepted) × (new.calls ≡ with_calls n old.calls))
 
 -- loads of the first words, in order
 pub record ReadsAll (old new : BankSeen) (count : ℕ) (result : Result (List ℕ) ReadAllFault) : Type 0 where
@@ -20,6 +20,6 @@ pub record ReadsAll (old new : BankSeen) (count : ℕ) (result : Result (List �
   pub words_are : IfOk result (λ words. IfSome old.told (λ told. words ≡ take count told))
   pub accepted : OnOk result (new.refused ≡ old.refused)
   pub counted : OnOk result (new.accepted ≡ reads_accepted count old.accepted)
-  pub called : OnOk result (new.calls ≡ asked_first count old.calls)
+  pub called : OnOk result (new.calls ≡ with_calls count old.calls)
   pub quiet : OnOk result (new.faults ≡ old.faults)
   pub failed : IfErr result (ReadFails old new count)

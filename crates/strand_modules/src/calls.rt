@@ -1,5 +1,5 @@
 ghost use Rattle.std.specs.Prelude.{◌≡◌, ◌<◌, ◌≤◌, length, slice_get, Some};
-ghost use Rattle.strand_modules.specs.Bank.{Loads, Stores, Fills, store_refused, fill_refused};
+ghost use Rattle.strand_modules.specs.Bank.{Loads, Stores, Fills, store_refused, as_before};
 ghost use Rattle.strand_modules.specs.Here.{bank_here};
 ghost use Rattle.strand_modules.specs.Reading.{ReadsAll};
 
@@ -67,26 +67,20 @@ impl ModuleBank {
         requires { i < (bank_here holds self.old).size }
         ensures { Stores store_refused (bank_here holds self.old) (bank_here holds self.new) i value result }
     {
-        let count = self.modules.len() as u64;
-        let index = (i % count) as usize;
-        match store_in(&mut self.modules, index, i / count, value) {
-            Ok(()) => {
-                self.accepted.count_store();
-                Ok(())
-            }
-            Err(ModuleFailed) => {
-                refuse_store(&mut self.refusals, index);
-                Err(AtModule {
-                    module: index as u32,
-                })
+        match self.try_store(i, value) {
+            Ok(()) => Ok(()),
+            Err(refused) => {
+                refuse_store(&mut self.refusals, refused.module as usize);
+                Err(refused)
             }
         }
     }
 
-    // A store that is part of a fill.
-    fn fill_word(&mut self, i: u64, value: u64) -> Result<(), AtModule>
+    // A store of which the caller counts a refusal.
+    fn try_store(&mut self, i: u64, value: u64) -> Result<(), AtModule>
         requires { i < (bank_here holds self.old).size }
-        ensures { Stores fill_refused (bank_here holds self.old) (bank_here holds self.new) i value result }
+        ensures { Stores as_before (bank_here holds self.old) (bank_here holds self.new)
+            i value result }
     {
         let count = self.modules.len() as u64;
         let index = (i % count) as usize;
@@ -95,12 +89,9 @@ impl ModuleBank {
                 self.accepted.count_store();
                 Ok(())
             }
-            Err(ModuleFailed) => {
-                refuse_fill(&mut self.refusals, index);
-                Err(AtModule {
-                    module: index as u32,
-                })
-            }
+            Err(ModuleFailed) => Err(AtModule {
+                module: index as u32,
+            }),
         }
     }
 
@@ -112,7 +103,8 @@ impl ModuleBank {
         ensures { Fills (bank_here holds self.old) (bank_here holds self.new) words.now result }
     {
         for (i, word) in words.iter().enumerate() {
-            if let Err(refused) = self.fill_word(i as u64, *word) {
+            if let Err(refused) = self.try_store(i as u64, *word) {
+                refuse_fill(&mut self.refusals, refused.module as usize);
                 return Err(refused);
             }
         }

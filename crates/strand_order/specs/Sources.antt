@@ -13,17 +13,17 @@ use Rattle.strand_order.specs.declared.lasts.Sources.{Sources}
 use Rattle.strand_order.specs.CoreLasts.{begin_in, gate_in}
 
 -- event k is an access of the word
-abbrev pub touches : List Event → ℕ → ℕ → Bool
-touches t word k = event_is is_access t k && (word_at t k == word)
+abbrev pub is_access_to : List Event → ℕ → ℕ → Bool
+is_access_to t word k = event_is is_access t k && (word_at t k == word)
 
 -- the last access of the word and the last store to it, below n
 abbrev pub word_lasts : List Event → ℕ → ℕ → WordLasts
-word_lasts t word n = record { access = since_below n (touches t word); store = since_below n (stores_word t word) }
+word_lasts t word n = record { access = since_below n (is_access_to t word); store = since_below n (stores_word t word) }
 
 -- for each access, the access of its word before it
 pub record AreWordLinks (t : List Event) (n : ℕ) (links : List ℕ) : Type 0 where
   pub long : length links ≡ n
-  pub back : (i : ℕ) → i < n → event_is is_access t i ≡ true → slice_index links i ≡ since_below i (touches t (word_at t i))
+  pub back : (i : ℕ) → i < n → event_is is_access t i ≡ true → slice_index links i ≡ since_below i (is_access_to t (word_at t i))
 
 -- for each access, barrier and join, the one of its core before it
 pub record AreCoreLinks (t : List Event) (n : ℕ) (links : List ℕ) : Type 0 where

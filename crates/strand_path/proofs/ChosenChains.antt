@@ -9,11 +9,10 @@ use Rattle.std.proofs.lemmas.Option.{slice_get-get_or}
 use Rattle.strand_base.proofs.BelowBound.{list_get}
 use Rattle.strand_inputs.specs.declared.mode.Mode.{Mode}
 use Rattle.strand_events.specs.declared.event.Event.{Event}
-use Rattle.strand_events.specs.Trace.{is_persist, event_is, persists_of}
+use Rattle.strand_events.specs.Trace.{is_persist, event_is, persists_of, persist_number}
 use Rattle.strand_events.specs.Order.{Before}
 use Rattle.strand_events.proofs.PersistOrder.Laws.{before_forward}
 use Rattle.strand_path.specs.Chains.{IsChain, events_of}
-use Rattle.strand_path.specs.Checked.{number_of}
 use Rattle.strand_path.specs.Chosen.{IsChosen, IsChosenChain}
 use Rattle.strand_path.proofs.LongestPath.ChosenChain.{chain_last}
 
@@ -76,10 +75,10 @@ module _ (mode : Mode) (t : List Event) where
   event_at : (chain : List ℕ) (k : ℕ) → k < length chain → slice_index (events_of t chain) k ≡ slice_index (persists_of t) (slice_index chain k)
   event_at chain k lt = get_or-map (slice_index (persists_of t)) chain k 0 0 lt
 
-  number_at : (chain : List ℕ) (k : ℕ) → IsChosenChain mode t chain → k < length chain → number_of t (slice_index (events_of t chain) k) ≡ slice_index chain k
+  number_at : (chain : List ℕ) (k : ℕ) → IsChosenChain mode t chain → k < length chain → persist_number t (slice_index (events_of t chain) k) ≡ slice_index chain k
   number_at chain k c lt =
       let p = slice_index chain k in
-      ap (number_of t) (event_at chain k lt) ∙ (list_get (length t) (event_is is_persist t) p (slice_index (persists_of t) p) (slice_get-get_or (persists_of t) p 0 (c.numbers k lt))).2
+      ap (persist_number t) (event_at chain k lt) ∙ (list_get (length t) (event_is is_persist t) p (slice_index (persists_of t) p) (slice_get-get_or (persists_of t) p 0 (c.numbers k lt))).2
 
   pub chosen_one : (chain other : List ℕ) → IsChosenChain mode t chain → IsChosenChain mode t other → chain ≡ other
   chosen_one chain other c d =
@@ -91,7 +90,7 @@ module _ (mode : Mode) (t : List Event) where
       same_number_lists chain other same (λ k lt.
       let after : (n : ℕ) × (k + suc n ≡ length (events_of t chain)) = (length chain - suc k, omega (arith, lt, size chain)) in
       let event = same_member (events_of t chain) (events_of t other) c.chosen d.chosen long after.0 k after.1 in
-      sym (number_at chain k c lt) ∙ ap (number_of t) event ∙ number_at other k d (omega (arith, lt, same)))
+      sym (number_at chain k c lt) ∙ ap (persist_number t) event ∙ number_at other k d (omega (arith, lt, same)))
 
   linked : (xs : List ℕ) → ((k : ℕ) → k < length xs → event_is is_persist t (slice_index xs k) ≡ true) → ((k : ℕ) → suc k < length xs → Before mode t (slice_index xs k) (slice_index xs (suc k))) → IsChain mode t xs
   linked [] is before = tt

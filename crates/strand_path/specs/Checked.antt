@@ -1,9 +1,8 @@
 -- What makes a path a proof that no chain is longer.
 use Rattle.std.specs.Prelude.{◌≡◌, ℕ, zero, suc, ◌<◌, ◌≤◌, Bool, true, ◌&&◌, ◌==◌, nat_lt, nat_le, List, [], ◌∷◌, length, slice_index, max, if◌then◌else◌}
 use Rattle.strand_inputs.specs.declared.mode.Mode.{Mode}
-use Rattle.strand_base.specs.Counting.{count_below}
 use Rattle.strand_events.specs.declared.event.Event.{Event}
-use Rattle.strand_events.specs.Trace.{is_persist, event_is}
+use Rattle.strand_events.specs.Trace.{is_persist, event_is, persist_number}
 use Rattle.strand_order.specs.Graph.{is_edge}
 use Rattle.strand_order.specs.declared.edge.Edge.{Edge}
 use Rattle.strand_path.specs.declared.path.Path.{Path}
@@ -17,10 +16,6 @@ pub record IsRoute (mode : Mode) (t : List Event) (route : List ℕ) : Type 0 wh
   pub within : (k : ℕ) → k < length route → slice_index route k < length t
   pub joined : (k : ℕ) → suc k < length route → is_edge mode t (slice_index route k) (slice_index route (suc k)) ≡ true
 
--- the number of a persist
-abbrev pub number_of : List Event → ℕ → ℕ
-number_of t event = count_below event (event_is is_persist t)
-
 -- the number stands at the place of the list
 abbrev pub has_at : List ℕ → ℕ → ℕ → Bool
 has_at numbers place number = nat_lt place (length numbers) && (slice_index numbers place == number)
@@ -28,7 +23,7 @@ has_at numbers place number = nat_lt place (length numbers) && (slice_index numb
 -- the numbers of the persists on a route, in order
 abbrev pub numbers_on : List Event → List ℕ → List ℕ
 numbers_on t [] = []
-numbers_on t (x ∷ xs) = if event_is is_persist t x then number_of t x ∷ numbers_on t xs else numbers_on t xs
+numbers_on t (x ∷ xs) = if event_is is_persist t x then persist_number t x ∷ numbers_on t xs else numbers_on t xs
 
 -- the level of event j is at least that of event i, and greater where j is a persist
 abbrev pub goes_up : List Event → List ℕ → ℕ → ℕ → Bool

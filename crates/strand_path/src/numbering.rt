@@ -1,6 +1,6 @@
 // The numbers of persists, along events that rise.
 ghost use Rattle.std.specs.Prelude.{◌≡◌, ℕ, ◌<◌, ◌≤◌, suc, map, length, slice_index, IfOk};
-ghost use Rattle.strand_path.specs.Checked.{number_of};
+ghost use Rattle.strand_events.specs.Trace.{persist_number};
 
 use crate::checking::is_persist_at;
 use std::alloc::Global;
@@ -9,10 +9,10 @@ use strand_events::Event;
 
 /// How many persists come before event `to`, by how many come before an earlier one.
 pub(crate) fn number_from(events: &[Event], from: u32, number: u32, to: u32) -> u32
-    requires number { number ≡ number_of events.now from }
+    requires number { number ≡ persist_number events.now from }
     requires rising { from ≤ to }
     requires to { to ≤ length events.now }
-    ensures { result ≡ number_of events.now to }
+    ensures { result ≡ persist_number events.now to }
 {
     let mut count = number;
     for k in from as usize..to as usize {
@@ -32,7 +32,7 @@ pub(crate) fn numbers_of(
     requires within { (k : ℕ) → k < length members.now → slice_index members.now k < length events.now }
     requires rising { (k : ℕ) → suc k < length members.now
         → slice_index members.now k ≤ slice_index members.now (suc k) }
-    ensures { IfOk result (λ numbers. numbers ≡ map (number_of events.now) members.now) }
+    ensures { IfOk result (λ numbers. numbers ≡ map (persist_number events.now) members.now) }
 {
     let mut numbers = Numbers::new(alloc);
     let mut at: u32 = 0;

@@ -2,7 +2,8 @@
 ghost use Rattle.std.specs.Prelude.{◌≡◌, ◌<◌, ◌≤◌, ◌++◌, List, map, reverse, slice_index, IfOk, OnOk};
 ghost use Rattle.strand_inputs.specs.declared.mode.Mode.{Mode};
 ghost use Rattle.strand_events.specs.declared.event.Event.{Event};
-ghost use Rattle.strand_path.specs.Checked.{IsRoute, number_of, numbers_on};
+ghost use Rattle.strand_events.specs.Trace.{persist_number};
+ghost use Rattle.strand_path.specs.Checked.{IsRoute, numbers_on};
 ghost use Rattle.strand_path.specs.Picking.{ArePicked, IsAppendedPath};
 ghost use Rattle.strand_path.specs.Tracing.{IsLinked, AreTraces};
 
@@ -59,7 +60,7 @@ pub(crate) fn route_of(
     requires picked { ArePicked graph.now.mode graph.now.events traces.now.levels.items members.now 0 }
     ensures route { IfOk result (IsRoute graph.now.mode graph.now.events) }
     ensures persists { IfOk result (λ route. numbers_on graph.now.events route
-        ≡ map (number_of graph.now.events) members.now) }
+        ≡ map (persist_number graph.now.events) members.now) }
 {
     let mut route = Numbers::new(alloc);
     if members.is_empty() {

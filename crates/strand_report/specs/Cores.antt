@@ -9,7 +9,7 @@ use Rattle.strand_exec.specs.declared.life.Life.{Life}
 use Rattle.strand_exec.specs.declared.life.Life.TheVariants.{Running, Halted, Trapped}
 use Rattle.strand_exec.specs.declared.life.Trap.{Trap}
 use Rattle.strand_exec.specs.declared.life.Trap.TheVariants.{Fetch, Target, Illegal, Misaligned, Access, Call}
-use Rattle.strand_report.specs.Numbered.{numbered}
+use Rattle.strand_report.specs.Numbered.{numbered_texts}
 
 abbrev pub trap_words : Trap → List (List ℕ)
 trap_words Fetch = codes "fetch" ∷ []
@@ -36,4 +36,4 @@ reg_line n r w =
 
 -- a core and its registers
 abbrev pub core_lines : ℕ → Core → List ℕ
-core_lines n core = core_line n core ++ numbered (reg_line n) core.regs
+core_lines n core = core_line n core ++ numbered_texts (reg_line n) core.regs

@@ -16,7 +16,7 @@ use Rattle.strand_report.specs.Bubbles.{bubble_lines}
 use Rattle.strand_report.specs.Caches.{cache_line}
 use Rattle.strand_report.specs.Cores.{core_lines}
 use Rattle.strand_report.specs.FaultLines.{module_fault_line}
-use Rattle.strand_report.specs.Numbered.{numbered}
+use Rattle.strand_report.specs.Numbered.{numbered_texts}
 use Rattle.strand_report.specs.Outs.{out_lines}
 use Rattle.strand_report.specs.Persists.{durable_line, path_line}
 use Rattle.strand_report.specs.Words.{held_lines, visible_lines}
@@ -48,14 +48,14 @@ fault_lines (Some fault) = module_fault_line fault
 abbrev pub report_parts : View → List ℕ → List (List ℕ)
 report_parts view chain =
     stop_line view.stop
-    ∷ numbered core_lines view.cores
+    ∷ numbered_texts core_lines view.cores
     ∷ out_lines view.trace
     ∷ bubble_lines view.bubbles
     ∷ visible_lines view.visible
     ∷ held_lines view.held
     ∷ durable_line view.durable
     ∷ path_line chain
-    ∷ numbered cache_line view.counts
+    ∷ numbered_texts cache_line view.counts
     ∷ fault_lines view.fault
     ∷ []
 

@@ -3,16 +3,15 @@ use Rattle.std.specs.Prelude.{ℕ, Bool, true, false, List, [], ◌∷◌, ◌++
 use Rattle.std.specs.List.{flat_map}
 use Rattle.std.specs.Fmt.{decimal}
 use lib.Chars.{codes}
-use Rattle.strand_base.specs.Counting.{count_below}
 use Rattle.strand_base.specs.Hexadecimal.{hex16}
 use Rattle.strand_base.specs.Text.{line_text}
 use Rattle.strand_inputs.specs.declared.mode.Mode.{Mode}
 use Rattle.strand_events.specs.declared.event.Event.{Event}
 use Rattle.strand_events.specs.declared.event.Event.TheVariants.{Load, Store, Barrier, NewStrand, Join, Out}
-use Rattle.strand_events.specs.Trace.{is_persist, event_is}
+use Rattle.strand_events.specs.Trace.{persist_number}
 use Rattle.strand_order.specs.declared.edge.Edge.{Edge}
 use Rattle.strand_order.specs.Edges.{edges_of}
-use Rattle.strand_report.specs.Numbered.{numbered}
+use Rattle.strand_report.specs.Numbered.{numbered_texts}
 
 -- the number of a store that is a persist
 abbrev pub persist_words : Bool → ℕ → List (List ℕ)
@@ -34,10 +33,10 @@ event_line k p e = line_text (codes "event" ∷ decimal k ∷ event_words p e)
 
 -- the line of event k of a trace
 abbrev pub event_text : List Event → ℕ → Event → List ℕ
-event_text t k e = event_line k (count_below k (event_is is_persist t)) e
+event_text t k e = event_line k (persist_number t k) e
 
 abbrev pub event_lines : List Event → List ℕ
-event_lines t = numbered (event_text t) t
+event_lines t = numbered_texts (event_text t) t
 
 -- "edge I J": an edge from event I to event J
 abbrev pub edge_line : Edge → List ℕ

@@ -1,7 +1,7 @@
 ghost use Rattle.std.specs.Prelude.{◌≤◌, length};
 ghost use Rattle.strand_base.specs.Puts.{Puts};
 ghost use Rattle.strand_report.specs.Cores.{core_line, core_lines, reg_line};
-ghost use Rattle.strand_report.specs.Numbered.{numbered};
+ghost use Rattle.strand_report.specs.Numbered.{numbered_texts};
 
 use crate::fields::Field::{Decimal, Hex, Register, Word};
 use crate::fields::put_fields;
@@ -52,7 +52,7 @@ fn put_reg(into: &mut Vec<u8>, core: usize, reg: usize, word: u64) -> Result<(),
 }
 
 fn put_regs(into: &mut Vec<u8>, core: usize, regs: &[u64]) -> Result<(), OutOfMemory>
-    ensures { Puts result (numbered (reg_line core) regs.now) into.old.items into.new.items }
+    ensures { Puts result (numbered_texts (reg_line core) regs.now) into.old.items into.new.items }
 {
     for (reg, word) in regs.iter().enumerate() {
         put_reg(into, core, reg, *word)?;
@@ -69,7 +69,7 @@ fn put_core(into: &mut Vec<u8>, core: usize, state: &CoreState) -> Result<(), Ou
 
 /// Appends the lines of the cores, which are numbered from 0.
 pub(crate) fn put_cores(into: &mut Vec<u8>, cores: &[CoreState]) -> Result<(), OutOfMemory>
-    ensures { Puts result (numbered core_lines cores.now) into.old.items into.new.items }
+    ensures { Puts result (numbered_texts core_lines cores.now) into.old.items into.new.items }
 {
     for (core, state) in cores.iter().enumerate() {
         put_core(into, core, state)?;

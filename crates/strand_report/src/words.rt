@@ -1,6 +1,6 @@
 ghost use Rattle.std.specs.Prelude.{◌+◌, ◌*◌, ◌^◌, ◌<◌, ◌≤◌};
 ghost use Rattle.strand_base.specs.Puts.{Puts};
-ghost use Rattle.strand_report.specs.Numbered.{numbered};
+ghost use Rattle.strand_report.specs.Numbered.{numbered_texts};
 ghost use Rattle.strand_report.specs.Words.{visible_lines, word_line};
 
 use crate::fields::Field::{Hex, Word};
@@ -35,7 +35,7 @@ pub(crate) fn put_words(
     words: &[u64],
 ) -> Result<(), OutOfMemory>
     requires { base ≤ 2 ^ 32 }
-    ensures { Puts result (numbered (word_line name.now base) words.now)
+    ensures { Puts result (numbered_texts (word_line name.now base) words.now)
         into.old.items into.new.items }
 {
     for (place, word) in words.iter().enumerate() {

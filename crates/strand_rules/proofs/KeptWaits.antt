@@ -12,7 +12,7 @@ use Rattle.strand_events.specs.Waits.{wait}
 use Rattle.strand_events.proofs.Waits.IsMet.{length_grown}
 use Rattle.strand_events.proofs.Waits.LongerTrace.{wait_kept}
 use Rattle.strand_rules.specs.Next.{AreWaits, AreKeptWaits, IsWaitOf, IsNextWait, waited}
-use Rattle.strand_rules.specs.Visible.{grown}
+use Rattle.strand_rules.specs.Visible.{with_event}
 
 list_more : (xs : List (List ℕ)) (y : List ℕ) (i : ℕ) → i < length xs → slice_index_or (xs ++ y ∷ []) i [] ≡ slice_index_or xs i []
 list_more [] y i lt = absurd (omega arith)
@@ -36,7 +36,7 @@ waits_more mode t e waits w are new = (
 )
 
 pub kept_more : (conflict : Conflict) (mode : Mode) (t : List Event) (waits : List (List ℕ)) (event : Option Event) (o : Option (List ℕ)) → AreKeptWaits conflict mode t waits → IsNextWait conflict mode t event o
-    → AreKeptWaits conflict mode (grown t event) (waited waits o)
+    → AreKeptWaits conflict mode (with_event t event) (waited waits o)
 kept_more Stall mode t waits event o are new = ap (waited waits) new ∙ are
 kept_more Tag mode t waits None o are new = subst (λ o. AreWaits mode t (waited waits o)) (sym new) are
 kept_more Tag mode t waits (Some e) None are new = absurd new

@@ -1,5 +1,5 @@
 -- Serves clause kept of Pipeline::keeps: a step keeps what a machine keeps, which is its invariant.
-use Rattle.std.proofs.Common.{◌≡◌, ℕ, zero, suc, ◌+◌, ◌^◌, ◌<◌, ◌≤◌, Bool, true, false, List, [], ◌∷◌, ◌++◌, length, refl, sym, ap, ◌∙◌, arith, inl, inr, length-append, length-set}
+use Rattle.std.proofs.Common.{◌≡◌, ℕ, ◌+◌, ◌^◌, ◌<◌, ◌≤◌, Bool, true, false, List, [], ◌∷◌, ◌++◌, length, refl, sym, ap, ◌∙◌, arith, inl, inr, length-append, length-set}
 use Rattle.std.specs.Prelude.{nat_lt, Some, None, slice_set, slice_index, remove, if◌then◌else◌}
 use Rattle.std.specs.declared.option.Option.{Option}
 use Rattle.std.proofs.lemmas.Bool.{cases_Bool, cases_eq, ltb-true, ltb-false, true≢false}
@@ -11,35 +11,35 @@ use Rattle.strand_events.specs.Places.{LieIn}
 use Rattle.strand_events.specs.Trace.{is_persist, event_is}
 use Rattle.strand_events.specs.Order.{set_of}
 use Rattle.strand_events.proofs.LongerTrace.{event_is_kept}
-use Rattle.strand_rules.specs.Visible.{grown}
+use Rattle.strand_rules.specs.Visible.{with_event}
 use Rattle.strand_rules.specs.Cycle.{State, unmarked, gone, write_after}
 use Rattle.strand_rules.specs.Machine.{Machine, made_to}
 use Rattle.strand_rules.specs.Kept.{IsKeptMachine}
 use Rattle.strand_rules.proofs.Marks.{held_unmarked, held_set, held_other}
 use Rattle.strand_events.proofs.EventWithin.{event_within}
 
-grown_length : (t : List Event) (o : Option Event) → length (grown t o) ≤ length t + 1
+grown_length : (t : List Event) (o : Option Event) → length (with_event t o) ≤ length t + 1
 grown_length t None = omega arith
 grown_length t (Some e) = omega (arith, length-append t (e ∷ []))
 
-grown_is : (t : List Event) (o : Option Event) (k : ℕ) → event_is is_persist t k ≡ true → event_is is_persist (grown t o) k ≡ true
+grown_is : (t : List Event) (o : Option Event) (k : ℕ) → event_is is_persist t k ≡ true → event_is is_persist (with_event t o) k ≡ true
 grown_is t None k is = is
 grown_is t (Some e) k is = event_is_kept t e is_persist k (event_within is_persist t k is) ∙ is
 
-pub marks_length : (t : List Event) (o : Option Event) (marks : List Bool) → length marks ≡ length t → length (unmarked marks o) ≡ length (grown t o)
+pub marks_length : (t : List Event) (o : Option Event) (marks : List Bool) → length marks ≡ length t → length (unmarked marks o) ≡ length (with_event t o)
 marks_length t None marks same = same
 marks_length t (Some e) marks same = omega (arith, same, length-append t (e ∷ []), length-append marks (false ∷ []))
 
 -- the state after core n retired an instruction that made this event, with these cores
 abbrev pub retired_state : State → List Core → ℕ → Option Event → State
 retired_state s cores n o = record s {
-  now = record s.now { cores = cores; trace = grown s.now.trace o };
+  now = record s.now { cores = cores; trace = with_event s.now.trace o };
   retired = s.retired ++ n ∷ [];
   buffered = unmarked s.buffered o;
   durable = unmarked s.durable o;
 }
 
-pub kept_core : (m : Machine) (cores : List Core) (n : ℕ) (o : Option Event) → length cores ≡ length m.state.now.cores → LieIn (grown m.state.now.trace o) m.program.sizes.persistent
+pub kept_core : (m : Machine) (cores : List Core) (n : ℕ) (o : Option Event) → length cores ≡ length m.state.now.cores → LieIn (with_event m.state.now.trace o) m.program.sizes.persistent
     → IsKeptMachine m → m.made < m.steps → IsKeptMachine (made_to m (retired_state m.state cores n o))
 kept_core m cores n o same placed kept room = record {
   cores = omega (arith, same, kept.cores);

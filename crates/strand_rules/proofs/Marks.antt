@@ -11,7 +11,7 @@ use Rattle.strand_events.specs.declared.event.Event.{Event}
 use Rattle.strand_events.specs.Trace.{is_persist, persists_of}
 use Rattle.strand_events.specs.Order.{set_of}
 use Rattle.strand_events.proofs.TraceInvariant.{persists_next, persists_most}
-use Rattle.strand_rules.specs.Visible.{grown}
+use Rattle.strand_rules.specs.Visible.{with_event}
 use Rattle.strand_rules.specs.Cycle.{unmarked}
 use Rattle.strand_rules.specs.Looking.{persists_unmarked}
 
@@ -57,7 +57,7 @@ persists_grown t e marks false is same = rw (persists_next t e, is) refl
 
 -- a new persist isn't durable
 pub marks_grown : (t : List Event) (e : Option Event) (marks : List Bool) → length marks ≡ length t
-    → map (set_of (unmarked marks e)) (persists_of (grown t e)) ≡ persists_unmarked (map (set_of marks) (persists_of t)) e
+    → map (set_of (unmarked marks e)) (persists_of (with_event t e)) ≡ persists_unmarked (map (set_of marks) (persists_of t)) e
 marks_grown t None marks same = refl
 marks_grown t (Some e) marks same = map_alike (set_of (marks ++ false ∷ [])) (set_of marks) (persists_of (t ++ e ∷ [])) (held_more marks) ∙ persists_grown t e marks (is_persist e) refl same
 

@@ -1,5 +1,5 @@
 -- Serves tagged_accesses_never_stall: under tag no turn is a bubble for a conflict.
-use Rattle.std.proofs.Common.{◌≡◌, ℕ, ◌+◌, Bool, true, false, ◌&&◌, length, refl, sym, ap, subst, ◌∙◌}
+use Rattle.std.proofs.Common.{◌≡◌, ℕ, ◌+◌, Bool, true, false, ◌&&◌, length, refl, sym, ap, ◌∙◌}
 use Rattle.std.specs.Prelude.{if◌then◌else◌, ◌==◌, Some, None, slice_get}
 use Rattle.std.specs.declared.option.Option.{Option}
 use Rattle.std.proofs.lemmas.Bool.{true≢false}
@@ -15,8 +15,6 @@ use Rattle.strand_rules.specs.declared.turn.Cause.TheVariants as causes
 use Rattle.strand_rules.specs.declared.turn.Turn.{Turn}
 use Rattle.strand_rules.specs.declared.turn.Turn.TheVariants.{Done, Bubble}
 use Rattle.strand_rules.specs.Visible.{Program, event_of, next_plan}
-use Rattle.strand_modules.specs.Bank.{BankSeen}
-use Rattle.strand_rules.specs.Machine.{Machine, StepLeaves}
 use Rattle.strand_rules.specs.Cycle.{State, is_item, queued, join_waits, access_waits, event_turn, made_turn, core_turn, front, ring_use, buffer_busy, buffer_of, item_turn, eligible, send_turn, older_waits, write_turn, turn}
 
 abbrev is_conflict : Turn → Bool
@@ -67,6 +65,3 @@ turn_free g p s (Write j) tag = write_free s j (slice_get s.flight j)
 
 pub no_conflict : (g : Settings) (p : Program) (s : State) (step : Step) → g.conflict ≡ Tag → turn g p s step ≡ Bubble causes.Conflict → ⊥
 no_conflict g p s step tag h = true≢false (sym (ap is_conflict h) ∙ turn_free g p s step tag)
-
-pub step_free : (old new : Machine) (bank bank' : BankSeen) (step : Step) (made : Turn) → StepLeaves old new bank bank' step made → old.config.conflict ≡ Tag → made ≡ Bubble causes.Conflict → ⊥
-step_free old new bank bank' step made steps tag e = no_conflict old.config old.program old.state step tag ((subst (StepLeaves old new bank bank' step) e steps).0)

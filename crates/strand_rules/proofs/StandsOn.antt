@@ -16,7 +16,7 @@ use Rattle.strand_events.specs.Places.{LieIn}
 use Rattle.strand_rules.specs.Images.{persistent_image}
 use Rattle.strand_rules.specs.Cycle.{WordStore, State, unmarked, durable_set, front, eligible, next_event, core_after, item_after, send_after, write_after, done_after, after_turn, turn, after}
 use Rattle.strand_rules.specs.Machine.{StoresOk, StoresErr, Machine, StepLeaves, StandsOn, stored_for, stored_by}
-use Rattle.strand_rules.specs.Visible.{Program, grown}
+use Rattle.strand_rules.specs.Visible.{Program, with_event}
 use Rattle.strand_rules.proofs.Image.AllWords.{image_length, image_more, image_one}
 use Rattle.strand_modules.proofs.FrontWords.{written_front}
 use Rattle.strand_rules.specs.declared.turn.Turn.{Turn}
@@ -30,7 +30,7 @@ use Rattle.strand_rules.proofs.Order.Run.{good_closed}
 
 -- the image of the durable set after an instruction
 image_unmarked : (words : List ℕ) (t : List Event) (marks : List Bool) (o : Option Event) → length marks ≡ length t
-    → persistent_image words (grown t o) (set_of (unmarked marks o)) ≡ persistent_image words t (set_of marks)
+    → persistent_image words (with_event t o) (set_of (unmarked marks o)) ≡ persistent_image words t (set_of marks)
 image_unmarked words t marks None same = refl
 image_unmarked words t marks (Some e) same =
     ap (persistent_image words (t ++ e ∷ [])) (held_grown marks)

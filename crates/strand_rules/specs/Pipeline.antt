@@ -9,7 +9,7 @@ use Rattle.strand_exec.specs.declared.planned.Plan.{Plan}
 use Rattle.strand_exec.specs.declared.planned.Plan.TheVariants as plans
 use Rattle.strand_events.specs.declared.event.Event.{Event}
 use Rattle.strand_inputs.specs.Settings.{Settings}
-use Rattle.strand_rules.specs.Visible.{Program, grown}
+use Rattle.strand_rules.specs.Visible.{Program, with_event}
 use Rattle.strand_rules.specs.Cycle.{State, unmarked, IsReached}
 use Rattle.strand_rules.specs.Machine.{Machine}
 
@@ -42,7 +42,7 @@ cores_after cores n (Some core) loaded effect = slice_set cores n (after core lo
 -- the state after core n retired an instruction of this effect, which made this event, but for its memory
 abbrev pub retired_to : State → ℕ → Effect → Option Event → ℕ → State
 retired_to s n effect event loaded = record s {
-  now = record s.now { cores = cores_after s.now.cores n (slice_get s.now.cores n) loaded effect; trace = grown s.now.trace event };
+  now = record s.now { cores = cores_after s.now.cores n (slice_get s.now.cores n) loaded effect; trace = with_event s.now.trace event };
   retired = s.retired ++ n ∷ [];
   buffered = unmarked s.buffered event;
   durable = unmarked s.durable event;

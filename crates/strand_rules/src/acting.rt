@@ -4,7 +4,7 @@ ghost use Rattle.strand_base.specs.declared.limits.TheConstants.{CORE_ROOM};
 ghost use Rattle.strand_exec.specs.Memory.{Memory, extents_of};
 ghost use Rattle.strand_exec.specs.Plan.{IsPlaced};
 ghost use Rattle.strand_events.specs.Fits.{EventFits};
-ghost use Rattle.strand_rules.specs.Visible.{event_of, memory_after, loaded, grown};
+ghost use Rattle.strand_rules.specs.Visible.{event_of, memory_after, loaded, with_event};
 ghost use Rattle.strand_rules.specs.Cycle.{unmarked};
 ghost use Rattle.strand_rules.specs.Looking.{persists_unmarked};
 ghost use Rattle.strand_rules.specs.Pipeline.{overwritten};
@@ -79,7 +79,7 @@ pub(crate) fn note(
     requires buffered { vec_len buffered.old < vec_capacity buffered.old }
     requires durable { vec_len durable.old < vec_capacity durable.old }
     requires persisted { vec_len persisted.old < vec_capacity persisted.old }
-    ensures events { trace.new.events ≡ grown trace.old.events event }
+    ensures events { trace.new.events ≡ with_event trace.old.events event }
     ensures room { trace.new.room ≡ trace.old.room }
     ensures buffered { buffered.new.items ≡ unmarked buffered.old.items event }
     ensures buffered_room { vec_capacity buffered.new ≡ vec_capacity buffered.old }

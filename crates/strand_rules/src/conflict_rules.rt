@@ -16,7 +16,7 @@ impl<'a> Past<'a> {
         ensures { result ≡ next_strand self.now.config.mode self.now.state.now.trace n }
     {
         let mut count: u32 = 0;
-        if let Mode::Strand = self.mode() {
+        if let Mode::Strand = self.pipeline.mode() {
             for k in 0..self.events().len() {
                 if self.events()[k].is_new_strand() && self.events()[k].core() == n {
                     count += 1;
@@ -33,7 +33,7 @@ impl<'a> Past<'a> {
             (core_of event) }
         ensures { result ≡ is_in_next self.now.config.mode self.now.state.now.trace event a }
     {
-        self.events()[a].core() == event.core() && self.strand_of(a) == strand
+        self.events()[a].core() == event.core() && self.pipeline.strand_of(a) == strand
     }
 
     // Whether access a conflicts with the next event, which is of the given strand of its core, and

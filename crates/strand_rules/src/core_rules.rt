@@ -15,7 +15,7 @@ impl<'a> Past<'a> {
     {
         let mut count: u32 = 0;
         for k in 0..self.events().len() {
-            if self.is_item_at(n, k) {
+            if self.pipeline.is_item_at(n, k) {
                 count += 1;
             }
         }
@@ -27,7 +27,7 @@ impl<'a> Past<'a> {
         requires { n < length self.now.state.now.cores }
         ensures { result ≡ queued self.now.config self.now.state n }
     {
-        self.item_count(n).saturating_sub(self.gone(n))
+        self.item_count(n).saturating_sub(self.pipeline.gone(n))
     }
 
     // Whether some persist of core n among the events below an end isn't durable.

@@ -1,24 +1,15 @@
-// What the rules of a dispatch find in the past.
+// What the rules of a dispatch find in a pipeline.
 ghost use Rattle.std.specs.Prelude.{◌≡◌, ◌<◌, ◌+◌, length, Some, IfSome};
-ghost use Rattle.strand_events.specs.Trace.{core_event_is, strand_number};
+ghost use Rattle.strand_events.specs.Trace.{strand_number};
 ghost use Rattle.strand_events.specs.Order.{set_of};
-ghost use Rattle.strand_rules.specs.Cycle.{is_item, front, ring_use, buffer_of, buffer_busy, item_turn};
+ghost use Rattle.strand_rules.specs.Cycle.{front, ring_use, buffer_of, buffer_busy, item_turn};
 ghost use Rattle.strand_rules.specs.Looking.{is_of_strand, is_busy};
 
-use crate::items::{is_core_item, is_core_persist};
-use crate::past::Past;
+use crate::items::is_core_persist;
+use crate::pipeline::Pipeline;
 use crate::turn::{Cause, Turn};
 
-impl<'a> Past<'a> {
-    /// Whether event k is an item of core n.
-    pub(crate) fn is_item_at(&self, n: u32, k: usize) -> bool
-        requires { k < length self.now.state.now.trace }
-        ensures { result
-            ≡ core_event_is (is_item self.now.config.mode) n self.now.state.now.trace k }
-    {
-        is_core_item(self.mode(), self.events()[k], n)
-    }
-
+impl Pipeline {
     /// The first item of core n's queue, by its event number.
     pub(crate) fn front(&self, n: u32) -> Option<usize>
         requires { n < length self.now.state.now.cores }
@@ -57,7 +48,7 @@ impl<'a> Past<'a> {
         let mut used = 0;
         for p in 0..k {
             if self.is_of_strand(n, k, p) {
-                if !self.durable()[p] {
+                if !self.is_durable(p) {
                     open = true;
                 }
                 if open {
@@ -76,7 +67,7 @@ impl<'a> Past<'a> {
     {
         is_core_persist(self.events()[p], n)
             && self.buffer_of(self.strand_of(p)) == b
-            && !self.durable()[p]
+            && !self.is_durable(p)
     }
 
     // Whether buffer b of core n isn't empty, where event k is the first item of the core's queue.
@@ -101,7 +92,7 @@ impl<'a> Past<'a> {
         ensures { result ≡ buffer_busy self.now.config self.now.state n (buffer_of self.now.config
             (strand_number self.now.config.mode self.now.state.now.trace k + 1)) }
     {
-        self.pipeline.keeps();
+        self.keeps();
         let next = self.buffer_of(self.strand_of(k) + 1);
         self.buffer_busy(n, next, k)
     }
@@ -112,7 +103,7 @@ impl<'a> Past<'a> {
         requires front { front self.now.config self.now.state n ≡ Some k }
         ensures { result ≡ item_turn self.now.config self.now.state n (Some k) }
     {
-        let config = self.config();
+        let config = self.config;
         let event = self.events()[k];
         if event.is_persist() && self.ring_use(n, k) == config.ring as usize {
             return Turn::Bubble(Cause::NoRoom);

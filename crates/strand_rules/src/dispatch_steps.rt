@@ -5,13 +5,10 @@ ghost use Rattle.strand_inputs.specs.declared.step.Step.TheVariants.{Dispatch};
 ghost use Rattle.strand_rules.specs.Cycle.{turn, front, item_after};
 ghost use Rattle.strand_rules.specs.Looking.{marked_at};
 ghost use Rattle.strand_rules.specs.Machine.{FrontIs, stepped, made_to};
-ghost use Rattle.strand_rules.specs.Next.{AreKeptWaits};
 ghost use Rattle.strand_rules.specs.Pipeline.{IsReachedWithSome};
 
-use crate::past::Past;
 use crate::pipeline::Pipeline;
 use crate::turn::{Cause, Turn};
-use strand_base::CORE_ROOM;
 
 impl Pipeline {
     // The item, if it is a persist.
@@ -40,21 +37,18 @@ impl Pipeline {
         self.made += 1;
     }
 
-    // Core n dispatches the first item of its queue. These are the waits of the events.
-    pub(crate) fn step_dispatch(&mut self, n: u32, waits: &[[u32; CORE_ROOM]]) -> Turn
+    // Core n dispatches the first item of its queue.
+    pub(crate) fn step_dispatch(&mut self, n: u32) -> Turn
         requires room { self.old.made < self.old.steps }
         requires core { n < length self.old.state.now.cores }
-        requires waits { AreKeptWaits self.old.config.conflict self.old.config.mode
-            self.old.state.now.trace waits.now }
         ensures turn { result ≡ turn self.old.config self.old.program self.old.state (Dispatch n) }
         ensures machine { self.new ≡ stepped self.old (Dispatch n) }
     {
         self.keeps();
-        let past = Past::new(self, waits);
-        let Some(k) = past.front(n) else {
+        let Some(k) = self.front(n) else {
             return self.bubble(Cause::NoItem);
         };
-        let turn = past.item_turn(n, k);
+        let turn = self.item_turn(n, k);
         if let Turn::Done = turn {
             let persist = self.persist_in(k);
             self.dispatch(n, persist);

@@ -153,7 +153,7 @@ impl PlainMachine {
         self.pipeline.keeps();
         match step {
             Step::Core(n) => self.step_core(n),
-            Step::Dispatch(n) => self.pipeline.step_dispatch(n, &self.waits),
+            Step::Dispatch(n) => self.pipeline.step_dispatch(n),
             Step::Send(n, b, j) => self.pipeline.step_send(n, b, j, &self.waits),
             Step::Write(j) => self.pipeline.step_write(j, bank),
         }

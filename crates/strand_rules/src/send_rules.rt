@@ -57,7 +57,9 @@ impl<'a> Past<'a> {
         requires { p < length self.now.state.now.trace }
         ensures { result ≡ is_in_buffer self.now.config self.now.state n b p }
     {
-        self.buffered()[p] && self.events()[p].core() == n && self.buffer_of(self.strand_of(p)) == b
+        self.buffered()[p]
+            && self.events()[p].core() == n
+            && self.pipeline.buffer_of(self.pipeline.strand_of(p)) == b
     }
 
     // Whether event p is an eligible persist of buffer b of core n, where each core has so many

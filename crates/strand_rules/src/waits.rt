@@ -74,7 +74,7 @@ impl<'a> Past<'a> {
         ensures { result ≡ core_orders self.now.config.mode core self.now.state.now.trace
             a (length self.now.state.now.trace) }
     {
-        match self.mode() {
+        match self.pipeline.mode() {
             Mode::Strict => true,
             Mode::Epoch => self.came_after(Kind::Border, core, a),
             Mode::Strand => {

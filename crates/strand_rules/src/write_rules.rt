@@ -1,8 +1,7 @@
 // What the rules of a write find in the requests and in the trace.
 ghost use Rattle.std.specs.Prelude.{◌≡◌, ◌<◌, ◌≤◌, true, IfSome, Some, length, slice_get};
-ghost use Rattle.strand_base.specs.Counting.{count_below};
 ghost use Rattle.strand_base.specs.Places.{persistent_place};
-ghost use Rattle.strand_events.specs.Trace.{event_is, is_persist, word_at, value_at};
+ghost use Rattle.strand_events.specs.Trace.{event_is, is_persist, persist_number, word_at, value_at};
 ghost use Rattle.strand_rules.specs.Cycle.{has_word_of, older_waits};
 
 use crate::pipeline::Pipeline;
@@ -48,7 +47,7 @@ impl Pipeline {
 // The number of a persist among the persists.
 pub(crate) fn persist_number(events: &[Event], p: usize) -> usize
     requires { p ≤ length events.now }
-    ensures { result ≡ count_below p (event_is is_persist events.now) }
+    ensures { result ≡ persist_number events.now p }
 {
     let mut count = 0;
     for k in 0..p {

@@ -1,7 +1,6 @@
 // The steps of the buffers and of the controller.
 ghost use Rattle.std.specs.Prelude.{◌≡◌, ◌<◌, ◌≤◌, ◌==◌, true, false, Some, length, slice_get};
-ghost use Rattle.strand_base.specs.Counting.{count_below};
-ghost use Rattle.strand_events.specs.Trace.{event_is, is_persist};
+ghost use Rattle.strand_events.specs.Trace.{event_is, is_persist, persist_number};
 ghost use Rattle.strand_events.specs.Order.{set_of};
 ghost use Rattle.strand_inputs.specs.declared.step.Step.TheVariants.{Send, Write};
 ghost use Rattle.strand_modules.specs.Seen.{bank_seen};
@@ -64,7 +63,7 @@ impl Pipeline {
     // The number of persist p among the persists.
     fn persist_number(&self, p: usize) -> u32
         requires { event_is is_persist self.now.state.now.trace p ≡ true }
-        ensures { result ≡ count_below p (event_is is_persist self.now.state.now.trace) }
+        ensures { result ≡ persist_number self.now.state.now.trace p }
     {
         persist_number(self.trace.events(), p) as u32
     }
@@ -85,7 +84,7 @@ impl Pipeline {
         requires room { self.old.made < self.old.steps }
         requires request { slice_get self.old.state.flight j ≡ Some p }
         requires persist { event_is is_persist self.old.state.now.trace p ≡ true }
-        requires number { number ≡ count_below p (event_is is_persist self.old.state.now.trace) }
+        requires number { number ≡ persist_number self.old.state.now.trace p }
         requires reached { IsReachedWithSome self.old.config self.old.program
             (write_after self.old.state j (Some p)) }
         ensures { self.new ≡ made_to self.old (write_after self.old.state j (Some p)) }

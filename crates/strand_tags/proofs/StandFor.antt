@@ -13,7 +13,7 @@ use Rattle.strand_tags.specs.declared.count_vector.CountVector.{CountVector}
 use Rattle.strand_tags.specs.declared.word_tag.WordTag.{WordTag}
 use Rattle.strand_tags.specs.Access.{Access, Noted, opposes, wait_part, made_part, part, covered}
 use Rattle.strand_tags.specs.Greater.{greater, no_counts, vector}
-use Rattle.strand_tags.specs.WordTags.{no_tag, whole, without, tag_after}
+use Rattle.strand_tags.specs.WordTags.{no_tag, whole, without_strand, tag_after}
 use Rattle.strand_tags.specs.TagsSeen.{TagsSeen, AreBehind, AreKept, CanAsk, StandFor, word_place, slot, tag_in, conflicting, made_elsewhere, made_opposing, wait_in, conflicting_wait, answer, with_access, with_wait, noted}
 use Rattle.strand_tags.proofs.Vectors.{each_at}
 
@@ -26,11 +26,11 @@ pub whole_after : (m : WordTag) (s k : ℕ) → whole (tag_after m s k) ≡ max 
 whole_after m s k = elim (cases_eq m.strand s) [ inl e ↦ rw (eq-eqb m.strand s e) (omega arith) | inr ne ↦ rw (ne_eqb m.strand s ne) (omega arith) ]
 
 -- an access of the strand itself adds nothing for its own strand
-pub without_same : (m : WordTag) (s k : ℕ) → without (tag_after m s k) s ≡ without m s
+pub without_same : (m : WordTag) (s k : ℕ) → without_strand (tag_after m s k) s ≡ without_strand m s
 without_same m s k = elim (cases_eq m.strand s) [ inl e ↦ rw (eq-eqb m.strand s e, eq-eqb m.strand s e) refl | inr ne ↦ rw (ne_eqb m.strand s ne, eq-eqb s s refl) refl ]
 
 -- and it adds its count for a later one
-pub without_later : (m : WordTag) (s k t : ℕ) → m.strand ≤ s → s < t → without (tag_after m s k) t ≡ max (without m t) k
+pub without_later : (m : WordTag) (s k t : ℕ) → m.strand ≤ s → s < t → without_strand (tag_after m s k) t ≡ max (without_strand m t) k
 without_later m s k t le lt =
     let apart : m.strand ≡ t → ⊥ = λ e. omega (arith, e) in
     elim (cases_eq m.strand s) [
@@ -45,7 +45,7 @@ elsewhere_after m b c s k le order = elim (cases_eq c b.core) [
   | inr other ↦ rw (ne_eqb c b.core other) (whole_after m s k)
   | inl own ↦ elim (cases_eq s b.strand) [
     | inl same ↦ rw (eq-eqb c b.core own, eq-eqb s b.strand same) (
-        let now : without (tag_after m s k) b.strand ≡ without m b.strand = ap (without (tag_after m s k)) (sym same) ∙ without_same m s k ∙ ap (without m) same in
+        let now : without_strand (tag_after m s k) b.strand ≡ without_strand m b.strand = ap (without_strand (tag_after m s k)) (sym same) ∙ without_same m s k ∙ ap (without_strand m) same in
         omega (arith, now))
     | inr later ↦ rw (eq-eqb c b.core own, ne_eqb s b.strand later) (without_later m s k b.strand le (let most = order own in grind arith))
   ]
@@ -333,10 +333,6 @@ module _ (t u : TagsSeen) (n : Noted) (strands : u.strands ≡ slice_set t.stran
 
   pub stand_as : AreKept t → CanAsk t n.access → (ns : List Noted) → StandFor t ns → StandFor u (ns ++ n ∷ [])
   stand_as kept may ns stand = subst (λ (x : TagsSeen). StandFor x (ns ++ n ∷ [])) (sym is_noted) (stand_noted t n kept may ns stand)
-
--- past the cores that there are, an answer is the wait
-pub answer_past : (tags : TagsSeen) (b : Access) (c : ℕ) → length tags.strands ≤ c → answer tags b c ≡ slice_index (conflicting_wait tags b) c
-answer_past tags b c le = omega (arith, made_out tags b c le)
 
 -- a loop over the cores, one core on
 pub one_answer : (tags : TagsSeen) (b : Access) (counts : List ℕ) (c : ℕ) → c < length counts → ((k : ℕ) → k < c → slice_index counts k ≡ answer tags b k)

@@ -8,7 +8,7 @@ use Rattle.strand_tags.specs.declared.count_vector.CountVector.{CountVector}
 use Rattle.strand_tags.specs.declared.word_tag.WordTag.{WordTag}
 use Rattle.strand_tags.specs.Access.{Access, Noted, covered}
 use Rattle.strand_tags.specs.Greater.{greater, no_counts, vector}
-use Rattle.strand_tags.specs.WordTags.{no_tag, whole, without, tag_after}
+use Rattle.strand_tags.specs.WordTags.{no_tag, whole, without_strand, tag_after}
 
 pub record TagsSeen : Type 0 where
   pub extents : Extents
@@ -39,7 +39,7 @@ conflicting tags b c = if b.write then tag_in tags.accesses tags c b.word else t
 
 -- the persists that a tag of core c has for access b: those made at accesses of another strand than b's
 abbrev pub made_elsewhere : WordTag → Access → ℕ → ℕ
-made_elsewhere m b c = if c == b.core then without m b.strand else whole m
+made_elsewhere m b c = if c == b.core then without_strand m b.strand else whole m
 
 -- the greatest number of persists that core c had made at an access that opposes access b
 abbrev pub made_opposing : TagsSeen → Access → ℕ → ℕ

@@ -10,8 +10,8 @@ abbrev pub whole : WordTag → ℕ
 whole m = max m.latest m.earlier
 
 -- the same without the accesses of a strand, which is none before the latest
-abbrev pub without : WordTag → ℕ → ℕ
-without m strand = if m.strand == strand then m.earlier else whole m
+abbrev pub without_strand : WordTag → ℕ → ℕ
+without_strand m strand = if m.strand == strand then m.earlier else whole m
 
 -- one access more, of a strand that is none before the latest
 abbrev pub tag_after : WordTag → ℕ → ℕ → WordTag

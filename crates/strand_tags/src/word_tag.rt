@@ -1,5 +1,5 @@
 ghost use Rattle.std.specs.Prelude.{◌≡◌};
-ghost use Rattle.strand_tags.specs.WordTags.{whole, without, tag_after};
+ghost use Rattle.strand_tags.specs.WordTags.{whole, without_strand, tag_after};
 
 /// What is kept of the accesses of one core to one word. No strand before the latest is asked for
 /// again, so three numbers do, however many accesses there were.
@@ -30,7 +30,7 @@ impl WordTag {
 
     /// The same without the accesses of a strand, which is none before the latest.
     pub(crate) fn without(&self, strand: u32) -> u32
-        ensures { result ≡ without self.now strand }
+        ensures { result ≡ without_strand self.now strand }
     {
         if self.strand == strand {
             self.earlier

@@ -1,28 +1,14 @@
 ghost use Rattle.strand_app.specs.Commands.Asm.{asm_rule};
 ghost use Rattle.strand_app.specs.Runs.{Comes};
 ghost use Rattle.strand_app.specs.World.{world};
-ghost use Rattle.std.specs.Prelude.{IfOk};
-ghost use Rattle.strand_app.specs.Answers.{PutsOk};
-ghost use Rattle.strand_image.specs.Image.{image_bytes};
 ghost use Rattle.strand_modules.specs.Bank.{BankSeen};
 
 use crate::contents::fetch_text;
+use crate::image_file::image_file;
 use crate::refusing::refuse;
-use crate::status::{Made, Status};
+use crate::status::Made;
 use std::alloc::Global;
 use strand_base::{Files, OutOfMemory};
-use strand_image::{Image, write_image};
-
-fn image_file(alloc: Global, image: &Image) -> Result<Made, OutOfMemory>
-    ensures { IfOk result (PutsOk (image_bytes image.now)) }
-{
-    let mut text = Vec::new(alloc);
-    write_image(image, &mut text)?;
-    Ok(Made {
-        status: Status::Ok,
-        text,
-    })
-}
 
 /// `asm TEXT`: the image that an assembler text gives.
 pub fn asm_text<F: Files>(alloc: Global, text: &str, files: &mut F) -> Result<Made, OutOfMemory>

@@ -16,7 +16,8 @@ use Rattle.strand_asm_lines.specs.declared.line.Body.{Body}
 use Rattle.strand_asm_lines.specs.declared.line.Body.TheVariants as bodies
 use Rattle.strand_asm.specs.Listing.{entry_text, word_text}
 use Rattle.strand_asm.proofs.ListAgain.Lines.{IsText, line_reads, text_append}
-use Rattle.strand_asm.proofs.ListAgain.Tokens.{all_sixteen, hex_number, lower_digits, number_again, word_again}
+use Rattle.strand_base.proofs.HexAgain.{all_sixteen}
+use Rattle.strand_asm.proofs.ListAgain.Tokens.{hex_number, lower_digits, number_again, word_again}
 use Rattle.strand_asm.proofs.ListAgain.Operands.{IsSolid, lone_solid, low_solid, not_empty, number_solid, one_piece, solid_text, texts_of}
 use Rattle.strand_asm.proofs.ListAgain.OneLine.{Says}
 

@@ -16,7 +16,7 @@ use Rattle.strand_image.specs.declared.quantity.Quantity.TheVariants.{Cores, Cod
 use Rattle.strand_asm_lines.specs.declared.line.Section.TheVariants as sections
 use Rattle.strand_asm.specs.declared.layout.Layout.{Layout}
 use Rattle.strand_asm.specs.declared.addition.Addition.TheVariants as additions
-use Rattle.strand_asm.specs.Layout.{laid, layout_of, nothing}
+use Rattle.strand_asm.specs.Layout.{laid, layout_of, empty_layout}
 use Rattle.strand_asm.specs.DraftSeen.{DraftSeen}
 use Rattle.strand_asm.specs.Draft.{added, addition, blank, draft_of, drafted}
 use Rattle.strand_asm.specs.Assemble.{assembled, cores_of_entries, entered, limited}
@@ -103,7 +103,7 @@ unfolding listing
 listing_is_read p h = lines_again (listing_lines p) (all_text p h)
 
 layout_again : (p : ImageSeen) → Listed p → layout_of (listing p) ≡ Ok (whole p)
-unfolding layout_of nothing
+unfolding layout_of empty_layout
 layout_again p h = rw (listing_is_read p h) (goes_all laid _ _ (listing_lines p) (lays p h) 1)
 
 draft_again : (p : ImageSeen) → Listed p → draft_of (whole p) (listing p) ≡ Ok (end p)

@@ -6,7 +6,7 @@ use Rattle.std.proofs.lemmas.Bool.{eqb-true}
 use lib.Chars.{codes}
 use Rattle.strand_base.specs.Text.{words_of, pieces_of}
 use Rattle.strand_isa.specs.Ops.{amount_bound, op_named, upper_row, branch_row, load_row, store_row, imm_row, shift_row, reg_row}
-use Rattle.strand_isa.specs.Word.{IsEvenWithin, IsValid, IsInRange, word_of}
+use Rattle.strand_isa.specs.Word.{IsEvenWithin, IsValid, IsInRange, instr_word}
 use Rattle.strand_isa.specs.Print.{field_text, instr_text, memory_text, register_text, three, two}
 use Rattle.strand_isa.specs.declared.instr.Instr.{Instr}
 use Rattle.strand_isa.specs.declared.instr.Instr.TheVariants as instrs
@@ -133,7 +133,7 @@ instr_reads (instrs.Imm op rd rs1 z) text v e = from_text _ text _ (imm_reads op
 instr_reads (instrs.Shift op rd rs1 amount) text v e = from_text _ text _ (shift_reads op rd rs1 amount v.0 v.1 v.2) e
 instr_reads (instrs.Reg op rd rs1 rs2) text v e = from_text _ text _ (reg_reads op rd rs1 rs2 v.0 v.1 v.2) e
 instr_reads (instrs.Fence rd rs1 bits) text v e =
-    let f = is_fence (word_of (instrs.Fence rd rs1 bits) == 0x0ff0000f) text e in
+    let f = is_fence (instr_word (instrs.Fence rd rs1 bits) == 0x0ff0000f) text e in
     let word : 0b0001111 + rd * 128 + 0 * 4096 + rs1 * 32768 + bits * 1048576 ≡ 0x0ff0000f = eqb-true _ _ f.0 in
     let d : rd ≡ 0 = omega (arith, word, v.0, v.1, v.2) in
     let s : rs1 ≡ 0 = omega (arith, word, v.0, v.1, v.2) in

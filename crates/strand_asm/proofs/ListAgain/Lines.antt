@@ -9,7 +9,7 @@ use Rattle.std.proofs.lemmas.List.{take_all}
 use Rattle.std.proofs.lemmas.List.Folds.{list_all-append}
 use Rattle.strand_base.specs.Text.{lines_of, without_return_of, content_of, is_blank}
 use Rattle.strand_asm_lines.specs.Bytes.{is_plain, pieces}
-use Rattle.strand_asm_lines.specs.Line.{body_of, line_of, parts_of}
+use Rattle.strand_asm_lines.specs.Line.{body_of, line_of, line_parts}
 use Rattle.strand_asm_lines.specs.declared.line.Body.{Body}
 use Rattle.strand_asm.specs.Listing.{lines_text}
 
@@ -94,7 +94,7 @@ no_colon (b ∷ s) p =
 
 -- a line without a label
 pub line_reads : (s : List ℕ) (body : Body) → IsText s → body_of s ≡ Ok body → line_of s ≡ Ok (record { label = None; body = body })
-unfolding line_of parts_of
+unfolding line_of line_parts
 line_reads s body p e = rw (content_same s p, all_plain s p, no_colon s p, e) refl
 
 -- the lines of a text

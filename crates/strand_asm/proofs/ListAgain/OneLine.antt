@@ -6,7 +6,7 @@ use Rattle.strand_asm_lines.specs.declared.line.Line.{Line}
 use Rattle.strand_asm.specs.declared.fault.AsmFault.{AsmFault}
 use Rattle.strand_asm.specs.declared.layout.Layout.{Layout}
 use Rattle.strand_asm.specs.declared.addition.Addition.{Addition}
-use Rattle.strand_asm.specs.Layout.{grown, is_placed, laid, on_line, over_lines}
+use Rattle.strand_asm.specs.Layout.{layout_after, is_placed, laid, on_line, over_lines}
 use Rattle.strand_asm.specs.DraftSeen.{DraftSeen}
 use Rattle.strand_asm.specs.Draft.{added, addition, drafted}
 
@@ -18,7 +18,7 @@ pub over_more : {S : Type 0} (step : ℕ → S → Line → Result S AsmFault) (
 unfolding over_lines
 over_more step n s t text texts e = rw e refl
 
-pub laid_line : (n : ℕ) (l : Layout) (text : List ℕ) (body : Body) → Says text body → is_placed l.section body ≡ true → on_line laid n l text ≡ Ok (grown l body)
+pub laid_line : (n : ℕ) (l : Layout) (text : List ℕ) (body : Body) → Says text body → is_placed l.section body ≡ true → on_line laid n l text ≡ Ok (layout_after l body)
 unfolding laid
 laid_line n l text body e placed = rw (e, placed) refl
 

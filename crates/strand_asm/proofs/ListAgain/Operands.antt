@@ -1,5 +1,5 @@
 -- Serves clause again of list: operands that were printed are read again.
-use Rattle.std.proofs.Common.{◌≡◌, ◌≢◌, ℕ, zero, suc, ◌*◌, ◌/◌, ◌%◌, ◌^◌, ◌<◌, ◌≤◌, Bool, true, false, eqb, not, List, [], ◌∷◌, ◌++◌, length, Option, Some, Ok, refl, sym, arith, append_assoc}
+use Rattle.std.proofs.Common.{◌≡◌, ◌≢◌, ℕ, zero, suc, ◌*◌, ◌/◌, ◌%◌, ◌^◌, ◌<◌, ◌≤◌, Bool, true, false, eqb, not, List, [], ◌∷◌, ◌++◌, length, Some, Ok, refl, sym, arith, append_assoc}
 use Rattle.std.specs.Prelude.{◌&&◌, ◌==◌, nat_le, ℤ, pos}
 use Rattle.std.specs.List.{list_all}
 use Rattle.std.specs.Fmt.{decimal, signed_decimal}
@@ -12,12 +12,13 @@ use Rattle.strand_base.specs.Text.{onto_first, pieces_of, filled, words_of}
 use Rattle.strand_isa.specs.Print.{field_text, memory_text, register_text, short_hex}
 use Rattle.strand_asm_lines.specs.Bytes.{pieces, operands_when, operand_texts, some_empty}
 use Rattle.strand_asm_lines.specs.Token.{bracketed}
-use Rattle.strand_asm_lines.specs.Line.{in_word, memory_of, operand_of}
+use Rattle.strand_asm_lines.specs.Line.{memory_of, operand_of}
 use Rattle.strand_asm_lines.specs.Table.{form_of}
 use Rattle.strand_asm_lines.specs.declared.mnemonic.Mnemonic.TheVariants.{Jal, Jalr, Li, Mv}
 use Rattle.strand_asm_lines.specs.declared.line.Operand.TheVariants as operands
 use Rattle.strand_asm.proofs.ListAgain.Lines.{IsText, and_both, is_text}
-use Rattle.strand_asm.proofs.ListAgain.Tokens.{IsNumber, IsNumeralText, all_weaken, decimal_numeral, hex_number, is_numeral, low_digits, offset_again, register_again, short_again, short_is_low, signed_again, signed_numeral, signed_some}
+use Rattle.strand_base.proofs.HexAgain.{low_digits}
+use Rattle.strand_asm.proofs.ListAgain.Tokens.{IsNumber, IsNumeralText, all_weaken, decimal_numeral, hex_number, is_numeral, offset_again, register_again, short_again, short_is_low, signed_again, signed_numeral, signed_some}
 
 -- a byte of an operand: it shows, and is no ',', '#' or ':'
 abbrev pub is_solid : ℕ → Bool
@@ -126,9 +127,6 @@ cut_piece a rest p = pieces_cut 44 (32 ∷ a) rest (spaced_lacks a p.solid)
 
 pub not_empty : (a : List ℕ) (texts : List (List ℕ)) → IsSolid a → some_empty ((32 ∷ a) ∷ texts) ≡ some_empty texts
 not_empty a texts p = rw (lone_solid a p) refl
-
-pub in_solid : {A : Type 0} (says : List ℕ → Option A) (a : List ℕ) → IsSolid a → in_word says (32 ∷ a) ≡ says a
-in_solid says a p = rw (lone_solid a p) refl
 
 -- each form of operand
 pub register_solid : (n : ℕ) → n < 32 → IsSolid (register_text n)

@@ -12,7 +12,7 @@ use Rattle.strand_asm.specs.declared.layout.Layout.{Layout}
 use Rattle.strand_asm.specs.declared.place.Site.{Site}
 use Rattle.strand_asm.specs.declared.addition.Addition.{Addition}
 use Rattle.strand_asm.specs.declared.addition.Addition.TheVariants as additions
-use Rattle.strand_asm.specs.Layout.{grown, is_placed, laid}
+use Rattle.strand_asm.specs.Layout.{layout_after, is_placed, laid}
 use Rattle.strand_asm.specs.DraftSeen.{DraftSeen}
 use Rattle.strand_asm.specs.Draft.{added, addition, drafted, entry_added, word_added}
 use Rattle.strand_asm.specs.Listing.{code_lines, code_text, data_lines, entry_lines, entry_text, word_text}
@@ -35,7 +35,7 @@ push_length xs w = length-append xs (w ∷ [])
 zeros_length : (xs : List ℕ) (n : ℕ) → length (xs ++ zeros_of n) ≡ length xs + n
 zeros_length xs n = length-append xs (zeros_of n) ∙ ap (λ (k : ℕ). length xs + k) (length-replicate n 0)
 
-pub lay_takes : (l : Layout) (text : List ℕ) (body : Body) → Printed text body → is_placed l.section body ≡ true → Takes laid l (grown l body) text
+pub lay_takes : (l : Layout) (text : List ℕ) (body : Body) → Printed text body → is_placed l.section body ≡ true → Takes laid l (layout_after l body) text
 lay_takes l text body p placed n = laid_line n l text body p.says placed
 
 -- the first pass

@@ -1,13 +1,11 @@
 -- Serves clause again of list: printed numbers, registers and places in memory are read again.
-use Rattle.std.proofs.Common.{◌≡◌, ℕ, zero, suc, ◌+◌, ◌-◌, ◌*◌, ◌/◌, ◌%◌, ◌^◌, ◌<◌, ◌≤◌, Bool, true, false, cond, eqb, ltb, not, List, [], ◌∷◌, length, get_or, drop, Option, Some, None, Ok, refl, sym, ap, ◌∙◌, arith, inl, inr}
-use Rattle.std.specs.Prelude.{◌&&◌, ◌==◌, nat_le, position, min, ℤ, pos, negsuc}
+use Rattle.std.proofs.Common.{◌≡◌, ℕ, zero, suc, ◌+◌, ◌-◌, ◌*◌, ◌/◌, ◌%◌, ◌^◌, ◌<◌, ◌≤◌, Bool, true, false, cond, eqb, not, List, [], ◌∷◌, length, get_or, drop, Option, Some, None, Ok, refl, sym, ap, ◌∙◌, arith, inl, inr}
+use Rattle.std.specs.Prelude.{◌&&◌, ◌==◌, nat_le, min, ℤ, pos, negsuc}
 use Rattle.std.specs.List.{list_all, position_or_len, range_with_len}
-use Rattle.std.specs.Char.{digit_value, is_ascii_hexdigit}
 use Rattle.std.specs.Fmt.{decimal, digits, signed_decimal}
-use Rattle.std.specs.Str.Parse.{AllDigits, digits_value, digits_value_after}
-use Rattle.std.proofs.Math.Nat.{div-div-eq-div-mul, div-one, pow-suc}
-use Rattle.std.proofs.lemmas.Nat.{div-add-mod'}
-use Rattle.std.proofs.lemmas.Bool.{cases_lt, eqb-true, ne_eqb, le-ltb, lt-ltb}
+use Rattle.std.specs.Str.Parse.{AllDigits}
+use Rattle.std.proofs.Math.Nat.{div-div-eq-div-mul}
+use Rattle.std.proofs.lemmas.Bool.{cases_lt, eqb-true, ne_eqb}
 use Rattle.std.proofs.lemmas.Bool.Decides.{nat_tests}
 use Rattle.std.proofs.lemmas.Fmt.{decimal_is_IsNumeral}
 use Rattle.std.proofs.lemmas.Str.Parse.{digit_from_value}
@@ -15,6 +13,7 @@ use Rattle.strand_base.specs.Number.{hexadecimal_of}
 use Rattle.strand_base.specs.Hexadecimal.{hex_digit, hex16}
 use Rattle.strand_isa.specs.Print.{register_text, short_hex}
 use Rattle.strand_base.proofs.TextAgain.{decimal_again}
+use Rattle.strand_base.proofs.HexAgain.{low_digits, all_sixteen, next_power, low_again}
 use Rattle.strand_asm_lines.specs.Token.{is_hexadecimal, is_negative, negative_of, number_of, numbered_register, offset_of, register_of, two_digits}
 use Rattle.strand_asm.proofs.ListAgain.Lines.{and_both}
 
@@ -101,64 +100,11 @@ pub signed_some : (z : ℤ) → IsNumber z → 0 < length (signed_decimal z)
 signed_some (pos n) fits = decimal_some n fits
 signed_some (negsuc n) fits = omega arith
 
--- hexadecimal digits: the lowest k of a number
-abbrev pub low_digits : ℕ → ℕ → List ℕ
-low_digits n zero = []
-low_digits n (suc k) = hex_digit (n / 2 ^ (4 * k) % 16) ∷ low_digits n k
-
-pub all_sixteen : (n : ℕ) → hex16 n ≡ low_digits n 16
-unfolding hex16
-all_sixteen n = refl
-
+-- the digits behind the first k
 pub lower_digits : (n m k : ℕ) → k ≤ m → drop k (low_digits n m) ≡ low_digits n (m - k)
 lower_digits n m zero le = let e : m - 0 ≡ m = omega arith in rw e refl
 lower_digits n zero (suc k) le = absurd (omega (arith, le))
 lower_digits n (suc m) (suc k) le = let e : suc m - suc k ≡ m - k = omega arith in rw e (lower_digits n m k (omega (arith, le)))
-
-is_digit_again : (d : ℕ) → d < 16 → is_ascii_hexdigit (hex_digit d) ≡ true
-is_digit_again d lt = grind (arith, nat_tests)
-
-value_again : (d : ℕ) → d < 16 → digit_value (hex_digit d) ≡ d
-value_again d lt = grind (arith, nat_tests)
-
-one_digit : (n p : ℕ) → n / (p * 16) * 16 + digit_value (hex_digit (n / p % 16)) ≡ n / p
-one_digit n p =
-    let low : n / p % 16 < 16 = omega arith in
-    rw (value_again (n / p % 16) low, ← div-div-eq-div-mul n p 16) (div-add-mod' (n / p) 16)
-
-next_power : (k : ℕ) → 2 ^ (4 * suc k) ≡ 2 ^ (4 * k) * 16
-next_power k =
-    let four : 4 * suc k ≡ suc (suc (suc (suc (4 * k)))) = omega arith in
-    let m = 4 * k in
-    ap (λ (j : ℕ). 2 ^ j) four ∙ omega (arith, pow-suc 2 (suc (suc (suc m))), pow-suc 2 (suc (suc m)), pow-suc 2 (suc m), pow-suc 2 m)
-
-low_value : (n k : ℕ) → digits_value_after 16 (n / 2 ^ (4 * k)) (low_digits n k) ≡ n
-low_value n zero = div-one n
-low_value n (suc k) = rw (next_power k) (ap (λ (v : ℕ). digits_value_after 16 v (low_digits n k)) (one_digit n (2 ^ (4 * k))) ∙ low_value n k)
-
-all_digits : (n k : ℕ) → position_or_len (λ c. not (is_ascii_hexdigit c)) (low_digits n k) ≡ length (low_digits n k)
-all_digits n zero = refl
-all_digits n (suc k) =
-    let low : n / 2 ^ (4 * k) % 16 < 16 = omega arith in
-    let rest : 1 + position_or_len (λ c. not (is_ascii_hexdigit c)) (low_digits n k) ≡ suc (length (low_digits n k)) = omega (arith, all_digits n k) in
-    rw (is_digit_again (n / 2 ^ (4 * k) % 16) low) rest
-
-none_bad : (ds : List ℕ) → position_or_len (λ c. not (is_ascii_hexdigit c)) ds ≡ length ds → position (λ c. not (is_ascii_hexdigit c)) ds ≡ None
-none_bad ds e =
-    let past : ltb (position_or_len (λ c. not (is_ascii_hexdigit c)) ds) (length ds) ≡ false = le-ltb _ _ (omega (arith, e)) in
-    rw past refl
-
-read_again : (ds : List ℕ) (n : ℕ) → 0 < length ds → position (λ c. not (is_ascii_hexdigit c)) ds ≡ None → digits_value 16 ds ≡ n → n < 2 ^ 64 → hexadecimal_of ds ≡ Ok n
-unfolding hexadecimal_of
-read_again [] n some all e fits = absurd (omega (arith, some))
-read_again (c ∷ cs) n some all e fits =
-    let small : ltb (digits_value 16 (c ∷ cs)) (2 ^ 64) ≡ true = lt-ltb _ _ (omega (arith, e)) in
-    rw (all, small) (ap (λ (m : ℕ). Ok m) e)
-
-pub low_again : (n k : ℕ) → n < 2 ^ 64 → n / 2 ^ (4 * suc k) ≡ 0 → hexadecimal_of (low_digits n (suc k)) ≡ Ok n
-low_again n k fits high =
-    read_again (low_digits n (suc k)) n (omega arith) (none_bad (low_digits n (suc k)) (all_digits n (suc k)))
-    (ap (λ (v : ℕ). digits_value_after 16 v (low_digits n (suc k))) (sym high) ∙ low_value n (suc k)) fits
 
 pub hex_number : (ds : List ℕ) (n : ℕ) → hexadecimal_of ds ≡ Ok n → number_of (48 ∷ 120 ∷ ds) ≡ Some (pos n)
 unfolding number_of

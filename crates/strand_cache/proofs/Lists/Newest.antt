@@ -6,7 +6,7 @@ use Rattle.std.proofs.lemmas.Bool.{cases_Bool, cases_lt, false≢true, true≢fa
 use Rattle.std.proofs.lemmas.List.{reverse-append}
 use Rattle.strand_base.specs.Counting.{count_below, list_below, any_below}
 use Rattle.strand_base.proofs.BelowBound.{any_true, count_flat, count_yes, count_no}
-use Rattle.strand_cache.specs.Lists.{without}
+use Rattle.strand_cache.specs.Lists.{without_line}
 
 abbrev pub newest_below : ℕ → (ℕ → Bool) → List ℕ
 newest_below zero f = []
@@ -68,7 +68,7 @@ count_implied (suc n) f h implied =
     ]
 
 -- the lines of the numbers but for one line
-pub without_newest : (n : ℕ) (f : ℕ → Bool) (line : ℕ → ℕ) (l : ℕ) → without l (map line (newest_below n f)) ≡ map line (newest_below n (λ k. f k && not (l == line k)))
+pub without_newest : (n : ℕ) (f : ℕ → Bool) (line : ℕ → ℕ) (l : ℕ) → without_line l (map line (newest_below n f)) ≡ map line (newest_below n (λ k. f k && not (l == line k)))
 without_newest zero f line l = refl
 without_newest (suc n) f line l =
     let rest = without_newest n f line l in

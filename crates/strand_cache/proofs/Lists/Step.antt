@@ -8,7 +8,7 @@ use Rattle.strand_base.specs.Counting.{any_below}
 use Rattle.strand_base.proofs.BelowBound.{any_agree, count_agree, count_yes, count_no}
 use Rattle.strand_cache.specs.Accesses.{LineAccess, touches, takes, line_at}
 use Rattle.strand_cache.specs.Hits.{Shape, same_set, is_intact, other_lines, is_kept, hit}
-use Rattle.strand_cache.specs.Lists.{without, lines_after, lines_held, StandsFor}
+use Rattle.strand_cache.specs.Lists.{without_line, lines_after, lines_held, StandsFor}
 use Rattle.strand_cache.proofs.Lists.Newest.{newest_below, newer, newest_agree, newest_yes, newest_no, map_agree, newest_take, without_newest, member_newest, count_implied, same_tests}
 use Rattle.strand_cache.proofs.Lists.LongerList.{core_last, line_last, line_kept, kept_kept}
 use Rattle.strand_cache.proofs.Lists.OneMore.{is_recent, breaks, recent_step, recent_last, kept_step, kept_last}
@@ -188,13 +188,13 @@ module _ (shape : Shape) (core set : ℕ) (xs : List LineAccess) (x : LineAccess
       (λ h. and_from (is_here shape core xs set k) (not (takes core (line_at xs k) x)) h (not_from_false (takes core (line_at xs k) x) (free k lt h))))) ∙
       sym held_now
 
-  taken_lines : 0 < shape.ways → is_own ≡ false → x.stores ≡ true → (x.core == core) ≡ false → lines_held shape core set (xs ++ x ∷ []) ≡ without x.line (lines_held shape core set xs)
+  taken_lines : 0 < shape.ways → is_own ≡ false → x.stores ≡ true → (x.core == core) ≡ false → lines_held shape core set (xs ++ x ∷ []) ≡ without_line x.line (lines_held shape core set xs)
   taken_lines some strange stores other =
       foreign_lines some strange ∙
       ap (map (line_at xs)) (newest_agree (length xs) (λ k. is_here shape core xs set k && not (takes core (line_at xs k) x)) is_rest (λ k lt. rw (stores, other) refl)) ∙
-      sym (without_newest (length xs) (is_here shape core xs set) (line_at xs) x.line) ∙ ap (without x.line) (sym held_now)
+      sym (without_newest (length xs) (is_here shape core xs set) (line_at xs) x.line) ∙ ap (without_line x.line) (sym held_now)
 
-  own_lines : 0 < shape.ways → is_own ≡ true → lines_held shape core set (xs ++ x ∷ []) ≡ take shape.ways (x.line ∷ without x.line (lines_held shape core set xs))
+  own_lines : 0 < shape.ways → is_own ≡ true → lines_held shape core set (xs ++ x ∷ []) ≡ take shape.ways (x.line ∷ without_line x.line (lines_held shape core set xs))
   own_lines some own =
       next_lines ∙ ap (map (line_at (xs ++ x ∷ []))) (newest_yes (length xs) is_next (next_last ∙ own)) ∙
       ap (λ l. l ∷ map (line_at (xs ++ x ∷ [])) (newest_below (length xs) is_next)) (line_last xs x) ∙
@@ -202,14 +202,14 @@ module _ (shape : Shape) (core set : ℕ) (xs : List LineAccess) (x : LineAccess
       map_agree (length xs) is_next (line_at (xs ++ x ∷ [])) (line_at xs) (λ k lt. line_kept xs x k lt) ∙
       ap (map (line_at xs)) (newest_agree (length xs) is_next (λ k. is_rest k && nat_lt (newer (length xs) is_rest k) (shape.ways - 1)) (λ k lt. own_step some own k lt) ∙ newest_take (length xs) is_rest (shape.ways - 1)) ∙
       map_take (shape.ways - 1) (line_at xs) (newest_below (length xs) is_rest) ∙
-      ap (take (shape.ways - 1)) (sym (without_newest (length xs) (is_here shape core xs set) (line_at xs) x.line) ∙ ap (without x.line) (sym held_now))) ∙
-      sym (take_front shape.ways x.line (without x.line (lines_held shape core set xs)) some)
+      ap (take (shape.ways - 1)) (sym (without_newest (length xs) (is_here shape core xs set) (line_at xs) x.line) ∙ ap (without_line x.line) (sym held_now))) ∙
+      sym (take_front shape.ways x.line (without_line x.line (lines_held shape core set xs)) some)
 
   module _ (lines : List ℕ) where
-    after_own : (x.line % shape.sets == set) ≡ true → (x.core == core) ≡ true → lines_after shape x core set lines ≡ take shape.ways (x.line ∷ without x.line lines)
+    after_own : (x.line % shape.sets == set) ≡ true → (x.core == core) ≡ true → lines_after shape x core set lines ≡ take shape.ways (x.line ∷ without_line x.line lines)
     after_own of_set mine = rw (of_set, mine) refl
 
-    after_taken : (x.line % shape.sets == set) ≡ true → (x.core == core) ≡ false → x.stores ≡ true → lines_after shape x core set lines ≡ without x.line lines
+    after_taken : (x.line % shape.sets == set) ≡ true → (x.core == core) ≡ false → x.stores ≡ true → lines_after shape x core set lines ≡ without_line x.line lines
     after_taken of_set other stores = rw (of_set, other, stores) refl
 
     after_load : (x.line % shape.sets == set) ≡ true → (x.core == core) ≡ false → x.stores ≡ false → lines_after shape x core set lines ≡ lines
@@ -261,10 +261,6 @@ hit_is_held shape xs x =
     let two = and_parts (is_kept shape x.core (line_at xs k) xs (length xs) k) (line_at xs k % shape.sets == x.line % shape.sets) one.0 in
     ap (λ l. is_kept shape x.core l xs (length xs) k) (eqb-true x.line (line_at xs k) one.1) ∙ two.0)) ∙
     sym (ap (list_any (λ line. x.line == line)) (held_lines shape x.core xs (x.line % shape.sets)) ∙ member_newest (length xs) (is_here shape x.core xs (x.line % shape.sets)) (line_at xs) x.line)
-
--- empty lists stand for the empty list of accesses
-pub empty_stand : (shape : Shape) (cores : ℕ) (lines : ℕ → ℕ → List ℕ) → ((core set : ℕ) → core < cores → set < shape.sets → lines core set ≡ []) → StandsFor shape cores lines []
-empty_stand shape cores lines empty core set c s = empty core set c s
 
 -- after one step the lists stand for the longer list, and the step's hit is the rule's
 pub step_stands : (shape : Shape) (cores : ℕ) (before after : ℕ → ℕ → List ℕ) (xs : List LineAccess) (x : LineAccess) → 0 < shape.ways → StandsFor shape cores before xs →

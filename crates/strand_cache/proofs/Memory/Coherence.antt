@@ -23,10 +23,6 @@ changed_parts line held h = let parts = and_parts held.changed (line == held.lin
 pub changed_from : (line : ℕ) (held : HeldLine) → held.changed ≡ true → line ≡ held.line → is_changed line held ≡ true
 changed_from line held c e = and_from held.changed (line == held.line) c (eq-eqb line held.line e)
 
--- no copy in the rows is a changed one of the line
-abbrev pub IsFree : List (List HeldLine) → ℕ → Type 0
-IsFree rows line = (core : ℕ) (held : HeldLine) → Among held (row_of rows core) → is_changed line held ≡ false
-
 module _ (x : Extents) (sets ways set : ℕ) (rows rows' : List (List HeldLine)) (backing : Memory) (flat : ℕ → ℕ) (core line : ℕ) where
   -- the other cores' copies of a line are written back and left unchanged
   module _ (whole : Coheres x sets ways set rows backing flat) (same : extents_of backing ≡ x) (few : IsApart backing)

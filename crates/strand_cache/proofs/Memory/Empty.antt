@@ -11,7 +11,7 @@ use Rattle.strand_cache.specs.Copies.{row_lines, owned, row_of}
 use Rattle.strand_cache.specs.Backing.{IsApart}
 use Rattle.strand_cache.specs.Accesses.{cache_line_of, line_place}
 use Rattle.strand_cache.specs.Coherence.{Among, HoldsOnce}
-use Rattle.strand_cache.specs.Whole.{group_of, owned_word, shown, flat_memory, IsWhole}
+use Rattle.strand_cache.specs.Whole.{group_of, owned_word, flat_value, flat_memory, IsWhole}
 use Rattle.strand_cache.proofs.Memory.Whole.{owned_some, flat_extents, flat_word, same_memory}
 
 -- all elements are the one that is also read past them
@@ -38,7 +38,7 @@ none_owned line rows empty = go (owned line rows) refl
     go None e = refl
     go (Some held) e = let f = owned_some line rows held e in absurd (subst (Among held) (empty f.0) f.1)
 
-fresh_shown : (cores sets : ℕ) (backing : Memory) (word : ℕ) → shown sets (no_groups cores sets) backing word ≡ word_in backing word
+fresh_shown : (cores sets : ℕ) (backing : Memory) (word : ℕ) → flat_value sets (no_groups cores sets) backing word ≡ word_in backing word
 fresh_shown cores sets backing word =
     ap (λ o. owned_word o (line_place word) (word_in backing word)) (none_owned (cache_line_of word) (group_of (no_groups cores sets) (cache_line_of word % sets)) (no_row cores sets (cache_line_of word % sets)))
 

@@ -4,7 +4,7 @@ use Rattle.std.specs.Prelude.{map, ◌≢◌, not, ◌==◌}
 use Rattle.std.specs.List.{find}
 use Rattle.std.proofs.lemmas.Bool.{cases_Bool, cases_lt, cases_eq, false≢true, false_from_ne_true, and_parts, not-true, eq-eqb}
 use Rattle.std.proofs.lemmas.List.{get_or_past}
-use Rattle.strand_cache.specs.Lists.{without}
+use Rattle.strand_cache.specs.Lists.{without_line}
 use Rattle.strand_cache.specs.declared.held_line.HeldLine.{HeldLine}
 use Rattle.strand_cache.specs.Copies.{cleaned, is_changed, row_lines, others, row_of}
 use Rattle.strand_cache.specs.Coherence.{Among}
@@ -57,7 +57,7 @@ lost_absent rows rows' core line lost c h ne a e =
     let found = among_filter (λ k. not (line == k.line)) (row_of rows c) h (subst (Among h) (lost c ne) a) in
     false≢true (sym (not-true (line == h.line) found.1) ∙ eq-eqb line h.line (sym e))
 
-pub others_lines : (line : ℕ) (row : List HeldLine) → row_lines (others line row) ≡ without line (row_lines row)
+pub others_lines : (line : ℕ) (row : List HeldLine) → row_lines (others line row) ≡ without_line line (row_lines row)
 others_lines line [] = refl
 others_lines line (x ∷ row) = elim (cases_Bool (line == x.line)) [
   | inl y ↦ rw y (others_lines line row)

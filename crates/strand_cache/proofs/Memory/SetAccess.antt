@@ -5,7 +5,7 @@ use Rattle.std.specs.Prelude.{not, ◌==◌, ◌%◌, ◌^◌, ◌≢◌, Option
 use Rattle.std.specs.List.{find, list_any}
 use Rattle.std.specs.Option.{is_some}
 use Rattle.std.proofs.lemmas.List.{take-map, get_or_default, get_or-set_same, get_or-set_other}
-use Rattle.strand_cache.specs.Lists.{lines_after, without}
+use Rattle.strand_cache.specs.Lists.{lines_after, without_line}
 use Rattle.std.proofs.lemmas.Bool.{cases_Bool, cases_eq, false≢true, true≢false, and_right, eqb-true, eq-eqb, ne_eqb, false_from_ne_true}
 use Rattle.strand_exec.specs.Core.{Extents}
 use Rattle.strand_exec.specs.Memory.{Memory, extents_of, word_in}
@@ -14,7 +14,7 @@ use Rattle.strand_cache.specs.declared.held_line.HeldLine.{HeldLine}
 use Rattle.strand_cache.specs.declared.change.Change.{Change}
 use Rattle.strand_cache.specs.declared.change.Change.TheVariants.{Read, Merge}
 use Rattle.strand_cache.specs.Copies.{is_of, is_changed, row_lines, others, row_of}
-use Rattle.strand_cache.specs.Backing.{word_at, word_or_zero, IsApart}
+use Rattle.strand_cache.specs.Backing.{line_word, word_or_zero, IsApart}
 use Rattle.strand_cache.specs.Accesses.{cache_line_of, line_place}
 use Rattle.strand_cache.specs.Coherence.{Accessed, Among, Coheres, Fetched, CopyAfter, put_back, with_value}
 use Rattle.strand_cache.specs.Changes.{stores, word_after, access_of}
@@ -58,7 +58,7 @@ module _ (x : Extents) (sets ways set : ℕ) (rows : List (List HeldLine)) (back
           let f = got.fresh e in
           let place : line_place word < 8 = omega arith in
           let whole_word : word % 8 ≡ 0 = is.0 in
-          let here : word_at line (line_place word) ≡ word = omega arith in
+          let here : line_word line (line_place word) ≡ word = omega arith in
           f.2 (line_place word) place ∙ ap (word_or_zero backing) here ∙ or_zero_is backing word (subst (λ e. IsWord e word) (sym same) is) ∙ fresh_word e word is at
       go (Some own) e = let o = own_copy own e in ap (λ h. slice_index h.words (line_place word)) (got.kept own e) ∙ whole.agree core own o.0 word is (at ∙ o.1)
 
@@ -183,16 +183,16 @@ module _ (sets ways set core word : ℕ) (change : Change) (lines : List ℕ) (o
   in_set : (cache_line_of word % sets == set) ≡ true
   in_set = eq-eqb (cache_line_of word % sets) set of_set
 
-  pub own_after : lines_after (shape_of sets ways) (access_of core word change) core set lines ≡ take ways (cache_line_of word ∷ without (cache_line_of word) lines)
+  pub own_after : lines_after (shape_of sets ways) (access_of core word change) core set lines ≡ take ways (cache_line_of word ∷ without_line (cache_line_of word) lines)
   own_after = rw (in_set, eq-eqb core core refl) refl
 
   pub loaded_after : (c : ℕ) → c ≢ core → stores change ≡ false → lines_after (shape_of sets ways) (access_of core word change) c set lines ≡ lines
   loaded_after c ne loads = rw (in_set, ne_eqb core c (λ e. ne (sym e)), loads) refl
 
-  pub stored_after : (c : ℕ) → c ≢ core → stores change ≡ true → lines_after (shape_of sets ways) (access_of core word change) c set lines ≡ without (cache_line_of word) lines
+  pub stored_after : (c : ℕ) → c ≢ core → stores change ≡ true → lines_after (shape_of sets ways) (access_of core word change) c set lines ≡ without_line (cache_line_of word) lines
   stored_after c ne y = rw (in_set, ne_eqb core c (λ e. ne (sym e)), y) refl
 
-pub own_lines : (ways line : ℕ) (after : HeldLine) (row : List HeldLine) → after.line ≡ line → row_lines (take ways (after ∷ others line row)) ≡ take ways (line ∷ without line (row_lines row))
+pub own_lines : (ways line : ℕ) (after : HeldLine) (row : List HeldLine) → after.line ≡ line → row_lines (take ways (after ∷ others line row)) ≡ take ways (line ∷ without_line line (row_lines row))
 own_lines ways line after row at = sym (take-map (λ h. h.line) ways (after ∷ others line row)) ∙ ap (take ways) (ap (λ l. l ∷ row_lines (others line row)) at ∙ ap (λ l. line ∷ l) (others_lines line row))
 
 -- the parts of an access put together: `d` is what is read past the rows
@@ -233,12 +233,12 @@ module _ (rows0 rows1 : List (List HeldLine)) (d : List HeldLine) (before backin
 
   pub all_lines : (sets set : ℕ) → cache_line_of word % sets ≡ set →
       (stores change ≡ false → (c : ℕ) → c ≢ core → row_lines (row_of rows1 c) ≡ row_lines (row_of rows0 c)) →
-      (stores change ≡ true → (c : ℕ) → c ≢ core → row_lines (row_of rows1 c) ≡ without (cache_line_of word) (row_lines (row_of rows0 c))) →
+      (stores change ≡ true → (c : ℕ) → c ≢ core → row_lines (row_of rows1 c) ≡ without_line (cache_line_of word) (row_lines (row_of rows0 c))) →
       (c : ℕ) → row_lines (row_of (slice_set rows1 core row') c) ≡ lines_after (shape_of sets ways) (access_of core word change) c set (row_lines (row_of rows0 c))
   all_lines sets set of_set loads takes c = elim (cases_eq c core) [
     | inl is ↦
         ap (λ i. row_lines (row_of (slice_set rows1 core row') i)) is ∙ ap row_lines (own_now ∙ row_here) ∙ own_lines ways (cache_line_of word) after (row_of rows1 core) line_is ∙
-        ap (λ r. take ways (cache_line_of word ∷ without (cache_line_of word) (row_lines r))) own_is ∙
+        ap (λ r. take ways (cache_line_of word ∷ without_line (cache_line_of word) (row_lines r))) own_is ∙
         sym (own_after sets ways set core word change (row_lines (row_of rows0 core)) of_set) ∙
         ap (λ i. lines_after (shape_of sets ways) (access_of core word change) i set (row_lines (row_of rows0 i))) (sym is)
     | inr ne ↦ ap row_lines (other_now c ne) ∙ elim (cases_Bool (stores change)) [

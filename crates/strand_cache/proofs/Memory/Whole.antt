@@ -21,7 +21,7 @@ use Rattle.strand_cache.specs.Backing.{IsApart}
 use Rattle.strand_cache.specs.Accesses.{cache_line_of, line_place}
 use Rattle.strand_cache.specs.Coherence.{Among, Coheres, Accessed, with_value}
 use Rattle.strand_cache.specs.Changes.{word_after, memory_after}
-use Rattle.strand_cache.specs.Whole.{group_of, owned_word, shown_in, shown, flat_memory, IsWhole}
+use Rattle.strand_cache.specs.Whole.{group_of, owned_word, flat_value_in, flat_value, flat_memory, IsWhole}
 use Rattle.strand_cache.proofs.Memory.Words.{low_word, high_word, put_extents, put_same, put_other}
 use Rattle.strand_cache.proofs.Memory.RowMembers.{find_among, find_absent}
 use Rattle.strand_cache.proofs.Memory.Coherence.{changed_parts}
@@ -51,7 +51,7 @@ owned_none line (row ∷ rows) e (suc core) held a = go (find (is_changed line) 
 
 -- what coheres shows the words of its flat memory
 pub coheres_shown : (x : Extents) (sets ways set : ℕ) (rows : List (List HeldLine)) (backing : Memory) (flat : ℕ → ℕ) → Coheres x sets ways set rows backing flat →
-    (word : ℕ) → IsWord x word → cache_line_of word % sets ≡ set → shown_in rows backing word ≡ flat word
+    (word : ℕ) → IsWord x word → cache_line_of word % sets ≡ set → flat_value_in rows backing word ≡ flat word
 coheres_shown x sets ways set rows backing flat whole word is of_set = go (owned (cache_line_of word) rows) refl
   where
     go : (o : Option HeldLine) → owned (cache_line_of word) rows ≡ o → owned_word o (line_place word) (word_in backing word) ≡ flat word
@@ -73,8 +73,8 @@ coheres_same x sets ways set rows backing backing' flat flat' whole words flats 
 
 pub flat_extents : (sets : ℕ) (groups : List (List (List HeldLine))) (backing : Memory) → extents_of (flat_memory sets groups backing) ≡ extents_of backing
 flat_extents sets groups backing = λ i. record {
-  volatile = length-map-range_with_len (λ k. shown sets groups backing (VOLATILE_BASE + 8 * k)) 0 (length backing.volatile) i;
-  persistent = length-map-range_with_len (λ k. shown sets groups backing (PERSISTENT_BASE + 8 * k)) 0 (length backing.persistent) i;
+  volatile = length-map-range_with_len (λ k. flat_value sets groups backing (VOLATILE_BASE + 8 * k)) 0 (length backing.volatile) i;
+  persistent = length-map-range_with_len (λ k. flat_value sets groups backing (PERSISTENT_BASE + 8 * k)) 0 (length backing.persistent) i;
 }
 
 pub seen_extents : (sets : ℕ) (groups : List (List (List HeldLine))) (backing memory : Memory) → flat_memory sets groups backing ≡ memory → extents_of memory ≡ extents_of backing
@@ -85,7 +85,7 @@ pub rows_found : (cores sets ways : ℕ) (groups : List (List (List HeldLine))) 
     → rows ≡ slice_index_or groups (cache_line_of word % sets) rows → rows ≡ group_of groups (cache_line_of word % sets)
 rows_found cores sets ways groups backing rows word whole e = e ∙ get_or_default groups (cache_line_of word % sets) rows [] (omega (arith, whole.some_sets, whole.all_sets))
 
-pub flat_word : (sets : ℕ) (groups : List (List (List HeldLine))) (backing : Memory) (word : ℕ) → IsApart backing → IsWord (extents_of backing) word → word_in (flat_memory sets groups backing) word ≡ shown sets groups backing word
+pub flat_word : (sets : ℕ) (groups : List (List (List HeldLine))) (backing : Memory) (word : ℕ) → IsApart backing → IsWord (extents_of backing) word → word_in (flat_memory sets groups backing) word ≡ flat_value sets groups backing word
 flat_word sets groups backing word few is = elim (cases_lt word PERSISTENT_BASE) [
   | inl lt ↦
       let parts : (VOLATILE_BASE ≤ word) × (word < VOLATILE_BASE + 8 * length backing.volatile) = elim is.1 [ inl v ↦ v | inr p ↦ absurd (omega (arith, p.0)) ] in
@@ -93,16 +93,16 @@ flat_word sets groups backing word few is = elim (cases_lt word PERSISTENT_BASE)
       let within : (word - VOLATILE_BASE) / 8 < length backing.volatile = omega (arith, parts.0, parts.1) in
       let at : VOLATILE_BASE + 8 * ((word - VOLATILE_BASE) / 8) ≡ word = omega (arith, parts.0) in
       low_word (flat_memory sets groups backing) word lt ∙
-      get_or-map-range_with_len (λ k. shown sets groups backing (VOLATILE_BASE + 8 * k)) 0 (length backing.volatile) ((word - VOLATILE_BASE) / 8) ((word - VOLATILE_BASE) / 8) 0 within (omega arith) ∙
-      ap (shown sets groups backing) at
+      get_or-map-range_with_len (λ k. flat_value sets groups backing (VOLATILE_BASE + 8 * k)) 0 (length backing.volatile) ((word - VOLATILE_BASE) / 8) ((word - VOLATILE_BASE) / 8) 0 within (omega arith) ∙
+      ap (flat_value sets groups backing) at
   | inr ge ↦
       let parts : (PERSISTENT_BASE ≤ word) × (word < PERSISTENT_BASE + 8 * length backing.persistent) = elim is.1 [ inl v ↦ absurd (omega (arith, v.1, few.apart)) | inr p ↦ p ] in
       let whole : word % 8 ≡ 0 = is.0 in
       let within : (word - PERSISTENT_BASE) / 8 < length backing.persistent = omega (arith, parts.0, parts.1) in
       let at : PERSISTENT_BASE + 8 * ((word - PERSISTENT_BASE) / 8) ≡ word = omega (arith, parts.0) in
       high_word (flat_memory sets groups backing) word ge ∙
-      get_or-map-range_with_len (λ k. shown sets groups backing (PERSISTENT_BASE + 8 * k)) 0 (length backing.persistent) ((word - PERSISTENT_BASE) / 8) ((word - PERSISTENT_BASE) / 8) 0 within (omega arith) ∙
-      ap (shown sets groups backing) at
+      get_or-map-range_with_len (λ k. flat_value sets groups backing (PERSISTENT_BASE + 8 * k)) 0 (length backing.persistent) ((word - PERSISTENT_BASE) / 8) ((word - PERSISTENT_BASE) / 8) 0 within (omega arith) ∙
+      ap (flat_value sets groups backing) at
 ]
 
 -- two memories with the same words are one
@@ -142,15 +142,15 @@ after_word (Merge mask bits) m word other few is is' =
 done_of : (cores sets ways : ℕ) (groups : List (List (List HeldLine))) (backing backing' : Memory) (group' old : List (List HeldLine)) (word : ℕ) (change : Change) (answer : ℕ) →
     IsWhole cores sets ways groups backing → old ≡ group_of groups (cache_line_of word % sets) →
     ((sets set : ℕ) (flat : ℕ → ℕ) → cache_line_of word % sets ≡ set → Coheres (extents_of backing) sets ways set old backing flat → Accessed (extents_of backing) sets ways set group' backing backing' flat word change answer) →
-    Accessed (extents_of backing) sets ways (cache_line_of word % sets) group' backing backing' (shown sets groups backing) word change answer
+    Accessed (extents_of backing) sets ways (cache_line_of word % sets) group' backing backing' (flat_value sets groups backing) word change answer
 done_of cores sets ways groups backing backing' group' old word change answer whole old_is each =
     let lt : cache_line_of word % sets < sets = omega (arith, whole.some_sets) in
-    each sets (cache_line_of word % sets) (shown sets groups backing) refl (subst (λ g. Coheres (extents_of backing) sets ways (cache_line_of word % sets) g backing (shown sets groups backing)) (sym old_is) (whole.coheres (cache_line_of word % sets) lt))
+    each sets (cache_line_of word % sets) (flat_value sets groups backing) refl (subst (λ g. Coheres (extents_of backing) sets ways (cache_line_of word % sets) g backing (flat_value sets groups backing)) (sym old_is) (whole.coheres (cache_line_of word % sets) lt))
 
 module _ (cores sets ways : ℕ) (groups : List (List (List HeldLine))) (backing backing' : Memory) (group' : List (List HeldLine)) (word : ℕ) (change : Change) (answer : ℕ)
     (whole : IsWhole cores sets ways groups backing) (few : IsApart backing) (is : IsWord (extents_of backing) word) (extents : extents_of backing' ≡ extents_of backing)
     (rows : length group' ≡ length (group_of groups (cache_line_of word % sets)))
-    (done : Accessed (extents_of backing) sets ways (cache_line_of word % sets) group' backing backing' (shown sets groups backing) word change answer) where
+    (done : Accessed (extents_of backing) sets ways (cache_line_of word % sets) group' backing backing' (flat_value sets groups backing) word change answer) where
   abbrev set : ℕ
   set = cache_line_of word % sets
 
@@ -158,10 +158,10 @@ module _ (cores sets ways : ℕ) (groups : List (List (List HeldLine))) (backing
   groups' = slice_set groups (cache_line_of word % sets) group'
 
   abbrev flat : ℕ → ℕ
-  flat = shown sets groups backing
+  flat = flat_value sets groups backing
 
   abbrev flat' : ℕ → ℕ
-  flat' = with_value (shown sets groups backing) word (word_after change (shown sets groups backing word))
+  flat' = with_value (flat_value sets groups backing) word (word_after change (flat_value sets groups backing word))
 
   set_lt : cache_line_of word % sets < length groups
   set_lt = omega (arith, whole.some_sets, whole.all_sets)
@@ -181,7 +181,7 @@ module _ (cores sets ways : ℕ) (groups : List (List (List HeldLine))) (backing
         (λ w is' of_set. sym (value_other flat word (word_after change (flat word)) w (λ e. ne (sym of_set ∙ ap (λ v. cache_line_of v % sets) e)))))
   ]
 
-  shown_new : (w : ℕ) → IsWord (extents_of backing) w → shown sets groups' backing' w ≡ flat' w
+  shown_new : (w : ℕ) → IsWord (extents_of backing) w → flat_value sets groups' backing' w ≡ flat' w
   shown_new w is' =
       let lt : cache_line_of w % sets < sets = omega (arith, whole.some_sets) in
       coheres_shown (extents_of backing) sets ways (cache_line_of w % sets) (group_of groups' (cache_line_of w % sets)) backing' flat' (coheres_new (cache_line_of w % sets) lt) w is' refl
@@ -196,8 +196,8 @@ module _ (cores sets ways : ℕ) (groups : List (List (List HeldLine))) (backing
     some_sets = whole.some_sets;
     some_ways = whole.some_ways;
     few_ways = whole.few_ways;
-    coheres = λ other lt. subst (λ x. Coheres x sets ways other (group_of groups' other) backing' (shown sets groups' backing')) (sym extents)
-        (coheres_same (extents_of backing) sets ways other (group_of groups' other) backing' backing' flat' (shown sets groups' backing') (coheres_new other lt) (λ w is' of_set. refl) (λ w is' of_set. sym (shown_new w is')));
+    coheres = λ other lt. subst (λ x. Coheres x sets ways other (group_of groups' other) backing' (flat_value sets groups' backing')) (sym extents)
+        (coheres_same (extents_of backing) sets ways other (group_of groups' other) backing' backing' flat' (flat_value sets groups' backing') (coheres_new other lt) (λ w is' of_set. refl) (λ w is' of_set. sym (shown_new w is')));
   }
 
   memory_is : flat_memory sets groups' backing' ≡ memory_after change word (flat_memory sets groups backing)

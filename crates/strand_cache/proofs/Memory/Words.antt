@@ -7,7 +7,7 @@ use Rattle.strand_base.specs.declared.regions.TheConstants.{VOLATILE_BASE, PERSI
 use Rattle.strand_exec.specs.Core.{Extents}
 use Rattle.strand_exec.specs.Memory.{Memory, extents_of, word_in, with_word}
 use Rattle.strand_exec.specs.Plan.{is_in, is_data, IsData, IsWord}
-use Rattle.strand_cache.specs.Backing.{word_at, put_below, with_line, word_or_zero, IsApart}
+use Rattle.strand_cache.specs.Backing.{line_word, put_below, with_line, word_or_zero, IsApart}
 use Rattle.strand_cache.specs.Accesses.{cache_line_of, line_place}
 
 pub data_from : (x : Extents) (word : ℕ) → is_data x word ≡ true → IsData x word
@@ -79,51 +79,51 @@ put_other m word value other is is' ne = elim (cases_lt word PERSISTENT_BASE) [
 module _ (line : ℕ) (words : List ℕ) where
   pub line_extents : (m : Memory) (k : ℕ) → extents_of (put_below m line words k) ≡ extents_of m
   line_extents m zero = refl
-  line_extents m (suc k) = elim (cases_Bool (is_data (extents_of m) (word_at line k))) [
-    | inl yes_ ↦ rw yes_ (put_extents (put_below m line words k) (word_at line k) (slice_index words k) ∙ line_extents m k)
+  line_extents m (suc k) = elim (cases_Bool (is_data (extents_of m) (line_word line k))) [
+    | inl yes_ ↦ rw yes_ (put_extents (put_below m line words k) (line_word line k) (slice_index words k) ∙ line_extents m k)
     | inr no_ ↦ rw no_ (line_extents m k)
   ]
 
-  put_yes : (m : Memory) (k : ℕ) → is_data (extents_of m) (word_at line k) ≡ true → put_below m line words (suc k) ≡ with_word (put_below m line words k) (word_at line k) (slice_index words k)
+  put_yes : (m : Memory) (k : ℕ) → is_data (extents_of m) (line_word line k) ≡ true → put_below m line words (suc k) ≡ with_word (put_below m line words k) (line_word line k) (slice_index words k)
   put_yes m k yes_ = rw yes_ refl
 
-  put_no : (m : Memory) (k : ℕ) → is_data (extents_of m) (word_at line k) ≡ false → put_below m line words (suc k) ≡ put_below m line words k
+  put_no : (m : Memory) (k : ℕ) → is_data (extents_of m) (line_word line k) ≡ false → put_below m line words (suc k) ≡ put_below m line words k
   put_no m k no_ = rw no_ refl
 
   still_apart : (m : Memory) (k : ℕ) → IsApart m → IsApart (put_below m line words k)
   still_apart m k few = record { apart = omega (arith, few.apart, ap (λ x. x.volatile) (line_extents m k)); small = omega (arith, few.small, ap (λ x. x.persistent) (line_extents m k)) }
 
-  step_word : (m : Memory) (k : ℕ) → is_data (extents_of m) (word_at line k) ≡ true → IsWord (extents_of (put_below m line words k)) (word_at line k)
-  step_word m k yes_ = let is : IsWord (extents_of m) (word_at line k) = (omega arith, data_from (extents_of m) (word_at line k) yes_) in subst (λ x. IsWord x (word_at line k)) (sym (line_extents m k)) is
+  step_word : (m : Memory) (k : ℕ) → is_data (extents_of m) (line_word line k) ≡ true → IsWord (extents_of (put_below m line words k)) (line_word line k)
+  step_word m k yes_ = let is : IsWord (extents_of m) (line_word line k) = (omega arith, data_from (extents_of m) (line_word line k) yes_) in subst (λ x. IsWord x (line_word line k)) (sym (line_extents m k)) is
 
   kept_word : (m : Memory) (k word : ℕ) → IsWord (extents_of m) word → IsWord (extents_of (put_below m line words k)) word
   kept_word m k word is = subst (λ x. IsWord x word) (sym (line_extents m k)) is
 
   -- a word that is not among the first of the line is as before
-  put_elsewhere : (m : Memory) (k word : ℕ) → IsWord (extents_of m) word → ((j : ℕ) → j < k → word ≡ word_at line j → ⊥) → word_in (put_below m line words k) word ≡ word_in m word
+  put_elsewhere : (m : Memory) (k word : ℕ) → IsWord (extents_of m) word → ((j : ℕ) → j < k → word ≡ line_word line j → ⊥) → word_in (put_below m line words k) word ≡ word_in m word
   put_elsewhere m zero word is ne = refl
   put_elsewhere m (suc k) word is ne =
       let rest = put_elsewhere m k word is (λ j lt. ne j (omega arith)) in
-      elim (cases_Bool (is_data (extents_of m) (word_at line k))) [
-        | inl yes_ ↦ ap (λ a. word_in a word) (put_yes m k yes_) ∙ put_other (put_below m line words k) (word_at line k) (slice_index words k) word (step_word m k yes_) (kept_word m k word is) (ne k (omega arith)) ∙ rest
+      elim (cases_Bool (is_data (extents_of m) (line_word line k))) [
+        | inl yes_ ↦ ap (λ a. word_in a word) (put_yes m k yes_) ∙ put_other (put_below m line words k) (line_word line k) (slice_index words k) word (step_word m k yes_) (kept_word m k word is) (ne k (omega arith)) ∙ rest
         | inr no_ ↦ ap (λ a. word_in a word) (put_no m k no_) ∙ rest
       ]
 
-  put_here : (m : Memory) (k j : ℕ) → IsApart m → j < k → IsWord (extents_of m) (word_at line j) → word_in (put_below m line words k) (word_at line j) ≡ slice_index words j
+  put_here : (m : Memory) (k j : ℕ) → IsApart m → j < k → IsWord (extents_of m) (line_word line j) → word_in (put_below m line words k) (line_word line j) ≡ slice_index words j
   put_here m zero j few lt is = absurd (omega arith)
-  put_here m (suc k) j few lt is = elim (cases_Bool (is_data (extents_of m) (word_at line k))) [
+  put_here m (suc k) j few lt is = elim (cases_Bool (is_data (extents_of m) (line_word line k))) [
     | inl yes_ ↦ elim (cases_eq j k) [
-      | inl same ↦ ap (λ a. word_in a (word_at line j)) (put_yes m k yes_) ∙ ap (λ i. word_in (with_word (put_below m line words k) (word_at line k) (slice_index words k)) (word_at line i)) same ∙
-          put_same (put_below m line words k) (word_at line k) (slice_index words k) (still_apart m k few) (step_word m k yes_) ∙ ap (slice_index words) (sym same)
+      | inl same ↦ ap (λ a. word_in a (line_word line j)) (put_yes m k yes_) ∙ ap (λ i. word_in (with_word (put_below m line words k) (line_word line k) (slice_index words k)) (line_word line i)) same ∙
+          put_same (put_below m line words k) (line_word line k) (slice_index words k) (still_apart m k few) (step_word m k yes_) ∙ ap (slice_index words) (sym same)
       | inr ne ↦
-          let apart : word_at line j ≡ word_at line k → ⊥ = λ e. ne (omega arith) in
+          let apart : line_word line j ≡ line_word line k → ⊥ = λ e. ne (omega arith) in
           let below : j < k = grind arith in
-          ap (λ a. word_in a (word_at line j)) (put_yes m k yes_) ∙ put_other (put_below m line words k) (word_at line k) (slice_index words k) (word_at line j) (step_word m k yes_) (kept_word m k (word_at line j) is) apart ∙ put_here m k j few below is
+          ap (λ a. word_in a (line_word line j)) (put_yes m k yes_) ∙ put_other (put_below m line words k) (line_word line k) (slice_index words k) (line_word line j) (step_word m k yes_) (kept_word m k (line_word line j) is) apart ∙ put_here m k j few below is
     ]
     | inr no_ ↦
-        let ne : j ≡ k → ⊥ = λ e. false≢true (sym no_ ∙ ap (λ i. is_data (extents_of m) (word_at line i)) (sym e) ∙ data_test (extents_of m) (word_at line j) is.1) in
+        let ne : j ≡ k → ⊥ = λ e. false≢true (sym no_ ∙ ap (λ i. is_data (extents_of m) (line_word line i)) (sym e) ∙ data_test (extents_of m) (line_word line j) is.1) in
         let below : j < k = grind arith in
-        ap (λ a. word_in a (word_at line j)) (put_no m k no_) ∙ put_here m k j few below is
+        ap (λ a. word_in a (line_word line j)) (put_no m k no_) ∙ put_here m k j few below is
   ]
 
   pub line_kept : (m : Memory) → extents_of (with_line m line words) ≡ extents_of m
@@ -139,8 +139,8 @@ module _ (line : ℕ) (words : List ℕ) where
   line_here m word few is of_line =
       let place : line_place word < 8 = omega arith in
       let whole : word % 8 ≡ 0 = is.0 in
-      let at : word_at line (line_place word) ≡ word = omega arith in
-      let here : IsWord (extents_of m) (word_at line (line_place word)) = rw at is in
+      let at : line_word line (line_place word) ≡ word = omega arith in
+      let here : IsWord (extents_of m) (line_word line (line_place word)) = rw at is in
       ap (word_in (with_line m line words)) (sym at) ∙ put_here m 8 (line_place word) few place here
 
 pub or_zero_is : (m : Memory) (word : ℕ) → IsWord (extents_of m) word → word_or_zero m word ≡ word_in m word

@@ -35,12 +35,3 @@ module _ (mode : Mode) (t : List Event) (Held : ℕ → ℕ → Type 0) (p : ℕ
     -- for each access b that p is before: b holds p, or p is of b's strand with a lower epoch or b's word
     pub reaches : (b : ℕ) → Before mode t p b → Reaches mode t Held p b
     reaches b before = reaches_chain before.0 p b before.1 (inr (strand_self mode t p, omega arith, inr refl))
-
-abbrev pub Linked : Mode → List Event → Set → ℕ → ℕ → Type 0
-Linked mode t durable a b = Tied mode t (λ p b. durable p ≡ true) a b
-
-abbrev pub LinkedBefore : Mode → List Event → Set → ℕ → ℕ → Type 0
-LinkedBefore mode t durable p b = Reaches mode t (λ p b. durable p ≡ true) p b
-
-pub linked_before : (mode : Mode) (t : List Event) (durable : Set) → ((a b : ℕ) → directly_before mode t a b ≡ true → Linked mode t durable a b) → (p b : ℕ) → event_is is_persist t p ≡ true → Before mode t p b → LinkedBefore mode t durable p b
-linked_before mode t durable links p b is before = reaches mode t (λ p b. durable p ≡ true) p is (λ a b direct durable_a. durable_a) links b before

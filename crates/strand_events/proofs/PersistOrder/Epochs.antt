@@ -1,8 +1,9 @@
 -- Serves clauses epochs and joins of persist_order_laws, and paths_are_persist_order of strand_order.
--- Epochs rise along a strand, and the events that order accesses of a core divide them into epochs.
+-- Laws on kinds of events, which files of strand_order and of the crates above cite too; epochs rise along a strand, and the
+-- events that order accesses of a core divide them into epochs.
 use Rattle.std.proofs.Common.{◌≡◌, ℕ, ◌<◌, ◌≤◌, Bool, true, false, ◌||◌, ◌&&◌, ◌⊎◌, inl, inr, List, refl, sym, ap, ◌∙◌, arith}
 use Rattle.std.specs.Prelude.{slice_get, nat_lt, not, ◌==◌, Option, Some, None}
-use Rattle.std.proofs.lemmas.Bool.{and_parts, and_from, and_left, or_cases, cases_eq, or_left, or_right, not-true, eqb-true, eq-eqb, ltb-true, lt-ltb, false≢true, true≢false, false_from_ne_true}
+use Rattle.std.proofs.lemmas.Bool.{and_parts, and_from, and_left, or_cases, cases_eq, or_left, or_right, not-true, eqb-true, eq-eqb, ltb-true, lt-ltb, false≢true, true≢false, false_from_ne_true, both_ways}
 use Rattle.strand_inputs.specs.declared.mode.Mode.{Mode}
 use Rattle.strand_inputs.specs.declared.mode.Mode.TheVariants.{Strict, Epoch, Strand}
 use Rattle.strand_events.specs.declared.event.Event.{Event}
@@ -20,6 +21,22 @@ weaker test other implies t i h = go (slice_get t i) h
     go None h = h
     go (Some e) h = implies e h
 
+-- one test excludes another
+pub excludes : (test other : Event → Bool) → ((e : Event) → test e ≡ true → other e ≡ false) → (t : List Event) (i : ℕ) → event_is test t i ≡ true → event_is other t i ≡ false
+excludes test other no_ t i h = go (slice_get t i) h
+  where
+    go : (o : Option Event) → passes test o ≡ true → passes other o ≡ false
+    go None h = refl
+    go (Some e) h = no_ e h
+
+-- an event that passes either of two tests passes one of them
+pub either_passes : (test other : Event → Bool) (t : List Event) (i : ℕ) → event_is (λ e. test e || other e) t i ≡ true → (event_is test t i ≡ true) ⊎ (event_is other t i ≡ true)
+either_passes test other t i h = go (slice_get t i) h
+  where
+    go : (o : Option Event) → passes (λ e. test e || other e) o ≡ true → (passes test o ≡ true) ⊎ (passes other o ≡ true)
+    go None h = absurd (false≢true h)
+    go (Some e) h = or_cases (test e) (other e) h
+
 pub persist_store : (e : Event) → is_persist e ≡ true → is_store e ≡ true
 persist_store (Store persist core word value) h = refl
 persist_store (Load core word) h = absurd (false≢true h)
@@ -28,16 +45,50 @@ persist_store (NewStrand core) h = absurd (false≢true h)
 persist_store (Join core) h = absurd (false≢true h)
 persist_store (Out core value) h = absurd (false≢true h)
 
+pub store_is_access : (e : Event) → is_store e ≡ true → is_access e ≡ true
+store_is_access (Store persist core word value) h = refl
+store_is_access (Load core word) h = absurd (false≢true h)
+store_is_access (Barrier core) h = absurd (false≢true h)
+store_is_access (NewStrand core) h = absurd (false≢true h)
+store_is_access (Join core) h = absurd (false≢true h)
+store_is_access (Out core value) h = absurd (false≢true h)
+
 pub persist_access : (e : Event) → is_persist e ≡ true → is_access e ≡ true
-persist_access (Store persist core word value) h = refl
-persist_access (Load core word) h = absurd (false≢true h)
-persist_access (Barrier core) h = absurd (false≢true h)
-persist_access (NewStrand core) h = absurd (false≢true h)
-persist_access (Join core) h = absurd (false≢true h)
-persist_access (Out core value) h = absurd (false≢true h)
+persist_access e h = store_is_access e (persist_store e h)
 
 pub barrier_either : (e : Event) → is_barrier e ≡ true → is_barrier_or_join e ≡ true
 barrier_either e h = or_left (is_barrier e) (is_join e) h
+
+pub join_either : (e : Event) → is_join e ≡ true → is_barrier_or_join e ≡ true
+join_either e h = or_right (is_barrier e) (is_join e) h
+
+-- neither an access nor a barrier begins a strand, and an access is no barrier and no join
+pub access_begins_none : (e : Event) → is_access e ≡ true → is_new_strand e ≡ false
+access_begins_none (Store persist core word value) h = refl
+access_begins_none (Load core word) h = refl
+access_begins_none (Barrier core) h = absurd (false≢true h)
+access_begins_none (NewStrand core) h = absurd (false≢true h)
+access_begins_none (Join core) h = absurd (false≢true h)
+access_begins_none (Out core value) h = absurd (false≢true h)
+
+pub barrier_begins_none : (e : Event) → is_barrier e ≡ true → is_new_strand e ≡ false
+barrier_begins_none (Barrier core) h = refl
+barrier_begins_none (NewStrand core) h = absurd (false≢true h)
+barrier_begins_none (Store persist core word value) h = absurd (false≢true h)
+barrier_begins_none (Load core word) h = absurd (false≢true h)
+barrier_begins_none (Join core) h = absurd (false≢true h)
+barrier_begins_none (Out core value) h = absurd (false≢true h)
+
+pub access_no_border : (e : Event) → is_access e ≡ true → is_barrier_or_join e ≡ false
+access_no_border (Store persist core word value) h = refl
+access_no_border (Load core word) h = refl
+access_no_border (Barrier core) h = absurd (false≢true h)
+access_no_border (NewStrand core) h = absurd (false≢true h)
+access_no_border (Join core) h = absurd (false≢true h)
+access_no_border (Out core value) h = absurd (false≢true h)
+
+pub access_is_no_border : (t : List Event) (i : ℕ) → event_is is_access t i ≡ true → event_is is_barrier_or_join t i ≡ true → ⊥
+access_is_no_border t i is border = both_ways (event_is is_barrier_or_join t i) (excludes is_access is_barrier_or_join access_no_border t i is) border
 
 -- two events are of one strand exactly where their cores and their strand numbers agree
 pub strand_parts : (mode : Mode) (t : List Event) (i j : ℕ) → same_strand mode t i j ≡ true → (core_at t i ≡ core_at t j) × (strand_number mode t i ≡ strand_number mode t j)
@@ -57,9 +108,6 @@ strand_chain mode t i j k h l = let a = strand_parts mode t i j h in let b = str
 
 strand_alike : (mode : Mode) (t : List Event) (k i j : ℕ) → same_strand mode t i j ≡ true → same_strand mode t k i ≡ same_strand mode t k j
 strand_alike mode t k i j h = let parts = strand_parts mode t i j h in cc (parts.0, parts.1)
-
-in_strand : (mode : Mode) → List Event → ℕ → ℕ → Bool
-in_strand mode t i k = event_is is_barrier_or_join t k && same_strand mode t k i
 
 -- the barriers and joins of the strand are counted alike at both events
 pub in_strand_alike : (mode : Mode) (t : List Event) (i j n : ℕ) → same_strand mode t i j ≡ true → count_below n (λ k. event_is is_barrier_or_join t k && same_strand mode t k i) ≡ count_below n (λ k. event_is is_barrier_or_join t k && same_strand mode t k j)
@@ -89,21 +137,6 @@ between_parts test core t a b h =
 pub between_from : (test : Event → Bool) (core : ℕ) (t : List Event) (a b k : ℕ) → a < k → k < b → event_is test t k ≡ true → core_at t k ≡ core → stands_between test core t a b ≡ true
 between_from test core t a b k lo hi is c = any_from b (λ k. nat_lt a k && core_event_is test core t k) k hi (and_from (nat_lt a k) (core_event_is test core t k) (lt-ltb a k lo) (and_from (event_is test t k) (core_at t k == core) is (eq-eqb (core_at t k) core c)))
 
-access_begins_none : (e : Event) → is_access e ≡ true → is_new_strand e ≡ false
-access_begins_none (Store persist core word value) h = refl
-access_begins_none (Load core word) h = refl
-access_begins_none (Barrier core) h = absurd (false≢true h)
-access_begins_none (NewStrand core) h = absurd (false≢true h)
-access_begins_none (Join core) h = absurd (false≢true h)
-access_begins_none (Out core value) h = absurd (false≢true h)
-
-no_begin_at : (t : List Event) (a : ℕ) → event_is is_access t a ≡ true → event_is is_new_strand t a ≡ false
-no_begin_at t a h = go (slice_get t a) h
-  where
-    go : (o : Option Event) → passes is_access o ≡ true → passes is_new_strand o ≡ false
-    go None h = refl
-    go (Some e) h = access_begins_none e h
-
 -- where no event of its core from access a up to b begins a strand, the strand's number is the same
 pub same_number : (t : List Event) (a b i : ℕ) → event_is is_access t a ≡ true → a ≤ i → i ≤ b → core_at t a ≡ core_at t i → stands_between is_new_strand (core_at t a) t a b ≡ false → strand_number Strand t a ≡ strand_number Strand t i
 same_number t a b i is lo hi c none =
@@ -111,7 +144,7 @@ same_number t a b i is lo hi c none =
   where
     each : (k : ℕ) → a ≤ k → k < i → core_event_is is_new_strand (core_at t i) t k ≡ false
     each k l m = elim (cases_eq k a) [
-      | inl e ↦ and_left (event_is is_new_strand t k) (core_at t k == core_at t i) (ap (event_is is_new_strand t) e ∙ no_begin_at t a is)
+      | inl e ↦ and_left (event_is is_new_strand t k) (core_at t k == core_at t i) (ap (event_is is_new_strand t) e ∙ excludes is_access is_new_strand access_begins_none t a is)
       | inr ne ↦
           let above : a < k = grind arith in
           let below : k < b = omega arith in
@@ -159,14 +192,14 @@ direct_parts mode t a b h =
       ],
     )
 
-pub conflict_word : (t : List Event) (a b : ℕ) → conflicts t a b ≡ true → word_at t a ≡ word_at t b
-conflict_word t a b h =
+-- accesses that conflict are of one word, and one of them is a store
+pub conflict_parts : (t : List Event) (a b : ℕ) → conflicts t a b ≡ true
+    → (event_is is_access t a ≡ true) × (event_is is_access t b ≡ true) × (word_at t a ≡ word_at t b) × ((event_is is_store t a || event_is is_store t b) ≡ true)
+conflict_parts t a b h =
     let one = and_parts (event_is is_access t a && event_is is_access t b && (word_at t a == word_at t b)) (event_is is_store t a || event_is is_store t b) h in
     let two = and_parts (event_is is_access t a && event_is is_access t b) (word_at t a == word_at t b) one.0 in
-    eqb-true (word_at t a) (word_at t b) two.1
-
-pub join_either : (e : Event) → is_join e ≡ true → is_barrier_or_join e ≡ true
-join_either e h = or_right (is_barrier e) (is_join e) h
+    let three = and_parts (event_is is_access t a) (event_is is_access t b) two.0 in
+    (three.0, three.1, eqb-true (word_at t a) (word_at t b) two.1, one.1)
 
 -- no strand begins between two events of one strand
 pub no_begin : (t : List Event) (x j : ℕ) → x < j → same_strand Strand t x j ≡ true → stands_between is_new_strand (core_at t x) t x j ≡ false

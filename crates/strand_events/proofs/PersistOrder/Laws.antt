@@ -1,17 +1,16 @@
 -- Serves persist_order_laws, each of its clauses.
 -- What follows from the definitions of persist order, in its own words.
-use Rattle.std.proofs.Common.{◌≡◌, ℕ, ◌<◌, ◌≤◌, ◌↔◌, Bool, true, false, ◌&&◌, ◌⊎◌, inl, inr, List, [], ◌∷◌, refl, sym, ap, subst, ◌∙◌, arith}
-use Rattle.std.specs.Prelude.{nat_le, not, Option, Some, None, slice_get}
-use Rattle.std.proofs.lemmas.Bool.{leb-true, and_parts, and_from, or_cases, or_left, or_right, cases_Bool, le-leb, false≢true, true≢false}
+use Rattle.std.proofs.Common.{◌≡◌, ℕ, ◌<◌, ◌≤◌, ◌↔◌, Bool, true, false, ◌&&◌, inl, inr, List, [], ◌∷◌, refl, sym, ap, subst, ◌∙◌, arith}
+use Rattle.std.specs.Prelude.{nat_le, not}
+use Rattle.std.proofs.lemmas.Bool.{leb-true, and_parts, and_from, or_left, or_right, cases_Bool, le-leb, true≢false}
 use Rattle.strand_base.specs.Counting.{count_below, any_below}
 use Rattle.strand_base.proofs.BelowBound.{any_true, any_false, count_flat}
 use Rattle.strand_inputs.specs.declared.mode.Mode.{Mode}
 use Rattle.strand_inputs.specs.declared.mode.Mode.TheVariants.{Strict, Epoch, Strand}
 use Rattle.strand_events.specs.declared.event.Event.{Event}
-use Rattle.strand_events.specs.declared.event.Event.TheVariants.{Load, Store, Barrier, NewStrand, Join, Out}
-use Rattle.strand_events.specs.Trace.{passes, is_access, is_persist, is_barrier, is_join, is_new_strand, is_barrier_or_join, core_at, word_at, event_is, same_strand, epoch}
+use Rattle.strand_events.specs.Trace.{is_access, is_persist, is_barrier, is_join, is_new_strand, is_barrier_or_join, core_at, word_at, event_is, same_strand, epoch}
 use Rattle.strand_events.specs.Order.{stands_between, core_orders, Leads, Before}
-use Rattle.strand_events.proofs.PersistOrder.Epochs.{in_strand_alike, direct_parts, strand_parts, between_from, core_linked, core_joined, no_begin}
+use Rattle.strand_events.proofs.PersistOrder.Epochs.{either_passes, access_is_no_border, in_strand_alike, direct_parts, strand_parts, between_from, core_linked, core_joined, no_begin}
 use Rattle.strand_events.proofs.PersistOrder.Images.{word_order}
 
 leads_forward : (mode : Mode) (t : List Event) (xs : List ℕ) (a b : ℕ) → Leads mode t a xs b → a < b
@@ -43,25 +42,6 @@ risen i j f le lt = elim (cases_Bool (any_below j (λ k. nat_le i k && f k))) [
       absurd (omega (arith, lt, flat))
 ]
 
-access_is_no_border : (t : List Event) (a : ℕ) → event_is is_access t a ≡ true → event_is is_barrier_or_join t a ≡ true → ⊥
-access_is_no_border t a is border = go (slice_get t a) is border
-  where
-    go : (o : Option Event) → passes is_access o ≡ true → passes is_barrier_or_join o ≡ true → ⊥
-    go None is border = false≢true is
-    go (Some (Load core word)) is border = false≢true border
-    go (Some (Store persist core word value)) is border = false≢true border
-    go (Some (Barrier core)) is border = false≢true is
-    go (Some (NewStrand core)) is border = false≢true is
-    go (Some (Join core)) is border = false≢true is
-    go (Some (Out core value)) is border = false≢true is
-
-barrier_or_join : (t : List Event) (k : ℕ) → event_is is_barrier_or_join t k ≡ true → (event_is is_barrier t k ≡ true) ⊎ (event_is is_join t k ≡ true)
-barrier_or_join t k border = go (slice_get t k) border
-  where
-    go : (o : Option Event) → passes is_barrier_or_join o ≡ true → (passes is_barrier o ≡ true) ⊎ (passes is_join o ≡ true)
-    go None border = absurd (false≢true border)
-    go (Some e) border = or_cases (is_barrier e) (is_join e) border
-
 -- where the epoch has risen from access a to event b of its strand, a barrier or join of the strand stands between
 border_between : (mode : Mode) (t : List Event) (a b : ℕ) → a < b → event_is is_access t a ≡ true → same_strand mode t a b ≡ true
     → count_below a (λ k. event_is is_barrier_or_join t k && same_strand mode t k b) < count_below b (λ k. event_is is_barrier_or_join t k && same_strand mode t k b)
@@ -83,7 +63,7 @@ ordered_by_epoch Strand t a b lt is same rises =
     let k = border_between Strand t a b lt is same (subst (λ n. n < epoch Strand t b) (in_strand_alike Strand t a b a same) rises) in
     let core = core_at t a in
     let apart : Bool = stands_between is_barrier core t a b && not (stands_between is_new_strand core t a b) in
-    elim (barrier_or_join t k.0 k.3) [
+    elim (either_passes is_barrier is_join t k.0 k.3) [
       | inl barrier ↦
           or_right (stands_between is_join core t a b) apart (and_from (stands_between is_barrier core t a b) (not (stands_between is_new_strand core t a b)) (between_from is_barrier core t a b k.0 k.1 k.2 barrier k.4) (ap not (no_begin t a b lt same)))
       | inr join ↦ or_left (stands_between is_join core t a b) apart (between_from is_join core t a b k.0 k.1 k.2 join k.4)

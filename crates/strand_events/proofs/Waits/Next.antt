@@ -1,6 +1,6 @@
 -- Serves clause next of waits_are_kept_by_vectors.
 -- The wait of a core's next access, from what is kept of the waits of earlier accesses.
-use Rattle.std.proofs.Common.{◌≡◌, ℕ, zero, suc, ◌+◌, ◌<◌, ◌≤◌, Bool, true, false, ◌&&◌, ◌||◌, ◌⊎◌, inl, inr, List, [], ◌∷◌, ◌++◌, length, refl, sym, ap, ◌∙◌, arith}
+use Rattle.std.proofs.Common.{◌≡◌, ℕ, zero, suc, ◌+◌, ◌<◌, ◌≤◌, Bool, true, false, ◌&&◌, ◌||◌, inl, inr, List, [], ◌∷◌, ◌++◌, length, refl, sym, ap, ◌∙◌, arith}
 use Rattle.std.specs.Prelude.{max, min, not, ◌==◌, if◌then◌else◌, slice_get, Some, None}
 use Rattle.std.specs.declared.option.Option.{Option}
 use Rattle.std.proofs.lemmas.Bool.{cases_lt, cases_Bool, and_parts, and_from, and_left, or_left, or_right, or_cases, eq-eqb, ne_eqb, eqb-true, lt-ltb, not-true, both_ways, false_from_ne_true, false≢true}
@@ -11,8 +11,9 @@ use Rattle.strand_inputs.specs.declared.mode.Mode.TheVariants.{Strict, Epoch, St
 use Rattle.strand_events.specs.declared.event.Event.{Event}
 use Rattle.strand_events.specs.Trace.{passes, is_persist, is_access, is_barrier, is_new_strand, is_join, is_barrier_or_join, core_of, core_in, core_at, event_is, core_event_is, same_strand}
 use Rattle.strand_events.specs.Order.{directly_before, conflicts, stands_between, core_orders}
+use Rattle.strand_events.proofs.TestLaws.{same_from}
 use Rattle.strand_events.proofs.LongerTrace.{event_is_kept, core_kept, between_kept, orders_kept}
-use Rattle.strand_events.proofs.PersistOrder.Epochs.{strand_from, between_parts, between_from, no_begin, same_number, weaker, persist_access, join_either, barrier_either}
+use Rattle.strand_events.proofs.PersistOrder.Epochs.{either_passes, strand_from, between_parts, between_from, no_begin, same_number, weaker, persist_access, join_either, barrier_either}
 use Rattle.strand_events.specs.Greatest.{max_below}
 use Rattle.strand_events.specs.Prefixes.{made_below}
 use Rattle.strand_events.specs.Waits.{made_at, handed, wait}
@@ -44,18 +45,6 @@ and_no : (x y : Bool) → y ≡ true → (x && not y) ≡ false
 and_no true true h = refl
 and_no false y h = refl
 and_no true false h = absurd (false≢true h)
-
-same_from : (x y : Bool) → (x ≡ true → y ≡ true) → (y ≡ true → x ≡ true) → x ≡ y
-same_from true y to from = sym (to refl)
-same_from false true to from = from refl
-same_from false false to from = refl
-
-border_either : (t : List Event) (k : ℕ) → event_is is_barrier_or_join t k ≡ true → (event_is is_barrier t k ≡ true) ⊎ (event_is is_join t k ≡ true)
-border_either t k border = go (slice_get t k) border
-  where
-    go : (o : Option Event) → passes is_barrier_or_join o ≡ true → (passes is_barrier o ≡ true) ⊎ (passes is_join o ≡ true)
-    go None border = absurd (false≢true border)
-    go (Some e) border = or_cases (is_barrier e) (is_join e) border
 
 -- the last number that passes below a bound
 count_last : (n : ℕ) (f : ℕ → Bool) (c : ℕ) → c < count_below n f → (k : ℕ) × (k < n) × (f k ≡ true) × (c < count_below (k + 1) f)
@@ -170,7 +159,7 @@ module _ (t : List Event) (e : Event) where
   border_parts n a b = same_from (stands_between is_barrier_or_join n t a b) (stands_between is_join n t a b || (stands_between is_barrier n t a b && not (stands_between (is_begin Epoch) n t a b)))
       (λ border.
       let k = between_parts is_barrier_or_join n t a b border in
-      elim (border_either t k.0 k.3) [
+      elim (either_passes is_barrier is_join t k.0 k.3) [
         | inl barrier ↦ or_right (stands_between is_join n t a b) (stands_between is_barrier n t a b && not (stands_between (is_begin Epoch) n t a b)) (and_from (stands_between is_barrier n t a b) (not (stands_between (is_begin Epoch) n t a b)) (between_from is_barrier n t a b k.0 k.1 k.2 barrier k.4) (ap not (no_begins n a b)))
         | inr join ↦ or_left (stands_between is_join n t a b) (stands_between is_barrier n t a b && not (stands_between (is_begin Epoch) n t a b)) (between_from is_join n t a b k.0 k.1 k.2 join k.4)
       ])

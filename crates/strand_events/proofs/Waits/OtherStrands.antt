@@ -7,7 +7,7 @@ use Rattle.strand_events.specs.declared.event.Event.{Event}
 use Rattle.strand_events.specs.Trace.{is_persist, word_at, event_is, same_strand, epoch}
 use Rattle.strand_events.specs.Order.{directly_before, Leads, Before}
 use Rattle.strand_events.proofs.PersistOrder.Laws.{before_chain}
-use Rattle.strand_events.proofs.PersistOrder.Epochs.{direct_parts, conflict_word, core_linked, core_joined}
+use Rattle.strand_events.proofs.PersistOrder.Epochs.{direct_parts, conflict_parts, core_linked, core_joined}
 use Rattle.strand_events.proofs.PersistOrder.Chain.{Tied, Reaches, reaches}
 use Rattle.strand_events.specs.Waits.{wait_counts, IsHandedTo}
 use Rattle.strand_events.proofs.Waits.Counts.{Counts, counts_made, counts_on, counted_why}
@@ -21,7 +21,7 @@ module _ (mode : Mode) (t : List Event) where
     | inl same ↦
         let parts = direct_parts mode t a b on in
         elim parts.3 [
-          | inl conflict ↦ inl (same, inr (conflict_word t a b conflict))
+          | inl conflict ↦ inl (same, inr ((conflict_parts t a b conflict).2))
           | inr (c, orders) ↦ elim (core_linked mode t a b parts.0 parts.1 c orders) [
             | inl (strand, low) ↦ inl (same, inl low)
             | inr join ↦ inl (same, inl (core_joined mode t a b parts.0 parts.1 same join))

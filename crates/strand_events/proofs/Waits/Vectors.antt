@@ -1,15 +1,16 @@
 -- Serves clauses own and others of waits_are_kept_by_vectors: what is kept of the waits, after one more event.
 use Rattle.std.proofs.Common.{◌≡◌, ℕ, suc, ◌+◌, ◌<◌, ◌≤◌, Bool, true, false, ◌&&◌, ◌||◌, inl, inr, List, [], ◌∷◌, ◌++◌, length, refl, ap, ◌∙◌, arith}
 use Rattle.std.specs.Prelude.{max, not, ◌==◌, nat_lt, if◌then◌else◌}
-use Rattle.std.proofs.lemmas.Bool.{cases_Bool, and_parts, and_left, or_left, lt-ltb, ltb-true, false_from_ne_true, both_ways}
+use Rattle.std.proofs.lemmas.Bool.{cases_Bool, and_parts, and_left, and_right, or_left, lt-ltb, ltb-true, false_from_ne_true, both_ways}
 use Rattle.strand_base.proofs.BelowBound.{any_true, count_mono, get_last}
 use Rattle.strand_inputs.specs.declared.mode.Mode.{Mode}
 use Rattle.strand_inputs.specs.declared.mode.Mode.TheVariants.{Strict, Epoch, Strand}
 use Rattle.strand_events.specs.declared.event.Event.{Event}
-use Rattle.strand_events.specs.declared.event.Event.TheVariants.{Load, Store, Barrier, NewStrand, Join, Out}
-use Rattle.strand_events.specs.Trace.{passes, is_persist, is_access, is_barrier, is_join, core_of, core_in, core_event_is}
+use Rattle.strand_events.specs.Trace.{passes, is_persist, is_access, is_barrier, is_new_strand, is_join, is_barrier_or_join, core_of, core_in, core_event_is}
 use Rattle.strand_events.specs.Order.{stands_between}
 use Rattle.strand_events.proofs.LongerTrace.{core_event_kept, between_kept}
+use Rattle.strand_events.proofs.TestLaws.{and_true}
+use Rattle.strand_events.proofs.PersistOrder.Epochs.{barrier_either, join_either, access_begins_none, barrier_begins_none, access_no_border}
 use Rattle.strand_events.proofs.Waits.IsMet.{length_grown}
 use Rattle.strand_events.specs.Greatest.{max_below}
 use Rattle.strand_events.specs.Prefixes.{made_below}
@@ -21,46 +22,15 @@ use Rattle.strand_events.proofs.Waits.LongerTrace.{persists_kept, wait_kept}
 begin_access : (mode : Mode) (e : Event) → is_begin mode e ≡ true → is_access e ≡ false
 begin_access Strict e h = absurd (both_ways false refl h)
 begin_access Epoch e h = absurd (both_ways false refl h)
-begin_access Strand (Load core word) h = absurd (both_ways false refl h)
-begin_access Strand (Store persist core word value) h = absurd (both_ways false refl h)
-begin_access Strand (Barrier core) h = refl
-begin_access Strand (NewStrand core) h = refl
-begin_access Strand (Join core) h = refl
-begin_access Strand (Out core value) h = refl
+begin_access Strand e h = false_from_ne_true (is_access e) (λ a. both_ways (is_new_strand e) (access_begins_none e a) h)
 
-barrier_access : (e : Event) → is_barrier e ≡ true → is_access e ≡ false
-barrier_access (Load core word) h = absurd (both_ways false refl h)
-barrier_access (Store persist core word value) h = absurd (both_ways false refl h)
-barrier_access (Barrier core) h = refl
-barrier_access (NewStrand core) h = refl
-barrier_access (Join core) h = refl
-barrier_access (Out core value) h = refl
+border_access : (e : Event) → is_barrier_or_join e ≡ true → is_access e ≡ false
+border_access e h = false_from_ne_true (is_access e) (λ a. both_ways (is_barrier_or_join e) (access_no_border e a) h)
 
 barrier_begin : (mode : Mode) (e : Event) → is_barrier e ≡ true → is_begin mode e ≡ false
 barrier_begin Strict e h = refl
 barrier_begin Epoch e h = refl
-barrier_begin Strand (Load core word) h = refl
-barrier_begin Strand (Store persist core word value) h = refl
-barrier_begin Strand (Barrier core) h = refl
-barrier_begin Strand (NewStrand core) h = absurd (both_ways false refl h)
-barrier_begin Strand (Join core) h = refl
-barrier_begin Strand (Out core value) h = refl
-
-join_access : (e : Event) → is_join e ≡ true → is_access e ≡ false
-join_access (Load core word) h = absurd (both_ways false refl h)
-join_access (Store persist core word value) h = absurd (both_ways false refl h)
-join_access (Barrier core) h = refl
-join_access (NewStrand core) h = refl
-join_access (Join core) h = refl
-join_access (Out core value) h = refl
-
-and_true : (b : Bool) → (b && true) ≡ b
-and_true true = refl
-and_true false = refl
-
-and_false : (b : Bool) → (b && false) ≡ false
-and_false true = refl
-and_false false = refl
+barrier_begin Strand e h = barrier_begins_none e h
 
 module _ (mode : Mode) (t : List Event) (e : Event) (core n : ℕ) where
   -- the new event is of core n and passes the test
@@ -101,7 +71,7 @@ module _ (mode : Mode) (t : List Event) (e : Event) (core n : ℕ) where
       rw off refl
 
   newest_off : (test : ℕ → Bool) → test (length t) ≡ false → newest test ≡ 0
-  newest_off test off = ap (λ b. if core_event_is is_access n (t ++ e ∷ []) (length t) && b then wait mode (t ++ e ∷ []) core (length t) else 0) off ∙ ap (λ b. if b then wait mode (t ++ e ∷ []) core (length t) else 0) (and_false (core_event_is is_access n (t ++ e ∷ []) (length t)))
+  newest_off test off = ap (λ b. if b then wait mode (t ++ e ∷ []) core (length t) else 0) (and_right (core_event_is is_access n (t ++ e ∷ []) (length t)) (test (length t)) off)
 
   -- the wait of the new event, where it is an access of core n
   abbrev new_wait : ℕ
@@ -112,7 +82,7 @@ module _ (mode : Mode) (t : List Event) (e : Event) (core n : ℕ) where
 
   no_waits : greatest_wait mode t core n (λ a. false) ≡ 0
   no_waits =
-      let most : greatest_wait mode t core n (λ a. false) ≤ 0 = max_most (length t) (λ a. if core_event_is is_access n t a && false then wait mode t core a else 0) 0 (λ a lt. rw (and_false (core_event_is is_access n t a)) (omega arith)) in
+      let most : greatest_wait mode t core n (λ a. false) ≤ 0 = max_most (length t) (λ a. if core_event_is is_access n t a && false then wait mode t core a else 0) 0 (λ a lt. rw (and_right (core_event_is is_access n t a) false refl) (omega arith)) in
       omega (arith, most)
 
   -- all accesses: one more where the event is an access of the core
@@ -137,7 +107,7 @@ module _ (mode : Mode) (t : List Event) (e : Event) (core n : ℕ) where
   pub fenced_begin : new_is (is_begin mode) ≡ true → fenced_waits mode (t ++ e ∷ []) core n ≡ 0
   fenced_begin begins =
       let test : ℕ → Bool = λ a. came_after is_barrier n (t ++ e ∷ []) a && not (came_after (is_begin mode) n (t ++ e ∷ []) a) in
-      let grown = grown_wait test (λ a. false) (λ a lt. ap (λ b. came_after is_barrier n (t ++ e ∷ []) a && not b) (came_more (is_begin mode) a lt ∙ or_left (new_is (is_begin mode)) (came_after (is_begin mode) n t a) begins) ∙ and_false (came_after is_barrier n (t ++ e ∷ []) a)) in
+      let grown = grown_wait test (λ a. false) (λ a lt. ap (λ b. came_after is_barrier n (t ++ e ∷ []) a && not b) (came_more (is_begin mode) a lt ∙ or_left (new_is (is_begin mode)) (came_after (is_begin mode) n t a) begins) ∙ and_right (came_after is_barrier n (t ++ e ∷ []) a) false refl) in
       let none = no_newest test (begin_access mode e ((and_parts (is_begin mode e) (core_of e == n) begins).0)) in
       omega (arith, grown, none, no_waits)
 
@@ -149,7 +119,7 @@ module _ (mode : Mode) (t : List Event) (e : Event) (core n : ℕ) where
       let grown = grown_wait test (λ a. not (came_after (is_begin mode) n t a)) (λ a lt.
       ap (λ b. b && not (came_after (is_begin mode) n (t ++ e ∷ []) a)) (came_more is_barrier a lt ∙ or_left (new_is is_barrier) (came_after is_barrier n t a) barrier)
       ∙ ap not (came_more (is_begin mode) a lt ∙ ap (λ b. b || came_after (is_begin mode) n t a) no_begin)) in
-      let none = no_newest test (barrier_access e is) in
+      let none = no_newest test (border_access e (barrier_either e is)) in
       omega (arith, grown, none)
 
   pub fenced_step : new_is (is_begin mode) ≡ false → new_is is_barrier ≡ false → fenced_waits mode (t ++ e ∷ []) core n ≡ fenced_waits mode t core n
@@ -166,7 +136,7 @@ module _ (mode : Mode) (t : List Event) (e : Event) (core n : ℕ) where
   joined_join join =
       let test : ℕ → Bool = came_after is_join n (t ++ e ∷ []) in
       let grown = grown_wait test (λ a. true) (λ a lt. came_more is_join a lt ∙ or_left (new_is is_join) (came_after is_join n t a) join) in
-      let none = no_newest test (join_access e ((and_parts (is_join e) (core_of e == n) join).0)) in
+      let none = no_newest test (border_access e (join_either e ((and_parts (is_join e) (core_of e == n) join).0))) in
       omega (arith, grown, none)
 
   pub joined_step : new_is is_join ≡ false → joined_waits mode (t ++ e ∷ []) core n ≡ joined_waits mode t core n
@@ -219,7 +189,7 @@ module _ (mode : Mode) (t : List Event) (e : Event) (core n : ℕ) where
   new_own test own = ap (λ b. test e && b) own ∙ and_true (test e)
 
   other_not : (test : Event → Bool) → (core_of e == n) ≡ false → new_is test ≡ false
-  other_not test other = ap (λ b. test e && b) other ∙ and_false (test e)
+  other_not test other = and_right (test e) (core_of e == n) other
 
   -- an event of another core changes nothing
   pub others_stay : (core_of e == n) ≡ false → core_waits mode (t ++ e ∷ []) core n ≡ core_waits mode t core n

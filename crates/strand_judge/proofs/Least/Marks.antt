@@ -109,15 +109,7 @@ module _ (n : ℕ) (marks : List Bool) (list : List ℕ) (x : ℕ) (l : IsListed
         )
   ]
 
--- the event that a number stands for marked, if there is one
-pub marked_none : (n : ℕ) (since : ℕ) (marks : List Bool) (list : List ℕ) → since ≡ 0 → IsListed n marks list → IsMarkedMore n since marks list marks list
-marked_none n since marks list none l = record {
-  listed = l;
-  grows = grows_none n marks list;
-  on = λ k e. absurd (omega (arith, none, e));
-  only = λ k h. inl h;
-}
-
+-- the event that a number stands for marked
 pub marked_one : (n since x : ℕ) (marks : List Bool) (list : List ℕ) (marks' : List Bool) (list' : List ℕ) → since ≡ suc x → x < n → IsListed n marks list
     → marks' ≡ slice_set marks x true → list' ≡ cond (set_of marks x) list (list ++ x ∷ []) → IsMarkedMore n since marks list marks' list'
 marked_one n since x marks list marks' list' is lt l made put =

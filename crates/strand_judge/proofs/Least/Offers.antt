@@ -34,14 +34,6 @@ first_unique t crash word k q (suc r) f g = elim (cases_order r q) [
 ]
 
 module _ (t : List Event) (first found : List ℕ) (lie : LieIn t (length found)) where
-  pub offered_first : (n : ℕ) (firsts nexts : List ℕ) → length t ≤ n → length firsts ≡ length found → length nexts ≡ length t → ((place : ℕ) → place < length found → slice_index firsts place ≡ 0) → AreOffered t (crash_of first found) (length found) n firsts nexts
-  offered_first n firsts nexts past long long_nexts zeros = record {
-    long = long;
-    long_nexts = long_nexts;
-    first = λ place lt. subst (IsFirstOffer t (crash_of first found) (address_of place) n) (sym (zeros place lt)) (λ r le o. omega (arith, le, past, event_within is_persist t r o.persist));
-    next = λ p le is. absurd (omega (arith, le, past, event_within is_persist t p is));
-  }
-
   -- event k, which is e, is noted
   module _ (k : ℕ) (e : Event) (at : slice_get t k ≡ Some e) (firsts nexts firsts' nexts' : List ℕ) (a : AreOffered t (crash_of first found) (length found) (suc k) firsts nexts) where
     place : ℕ

@@ -14,17 +14,11 @@ use Rattle.strand_events.proofs.EventWithin.{event_within}
 use Rattle.strand_events.proofs.PersistOrder.Images.{closed_word, image_yes, image_no, image_alike}
 
 -- a persist of the word that is in the one set and not in the other
-odd : List Event → Set → Set → ℕ → ℕ → Bool
-odd t set other word k = event_is is_persist t k && (word_at t k == word) && set k && not (other k)
-
 record Odd (t : List Event) (set other : Set) (word k : ℕ) : Type 0 where
   persist : event_is is_persist t k ≡ true
   to : word_at t k ≡ word
   in_set : set k ≡ true
   missing : other k ≡ false
-
-WithinAt : List Event → Set → Set → ℕ → Type 0
-WithinAt t set other word = (k : ℕ) → event_is is_persist t k ≡ true → word_at t k ≡ word → set k ≡ true → other k ≡ true
 
 odd_or_within : (t : List Event) (set other : Set) (word : ℕ) → ((k : ℕ) × Odd t set other word k) ⊎ ((k : ℕ) → event_is is_persist t k ≡ true → word_at t k ≡ word → set k ≡ true → other k ≡ true)
 odd_or_within t set other word = elim (cases_Bool (any_below (length t) (λ k. event_is is_persist t k && (word_at t k == word) && set k && not (other k)))) [

@@ -5,14 +5,14 @@ use Rattle.strand_base.specs.Counting.{count_below, list_below}
 use Rattle.strand_base.proofs.BelowBound.{count_agree, get_more}
 use Rattle.strand_inputs.specs.Settings.{Settings}
 use Rattle.strand_events.specs.declared.event.Event.{Event}
-use Rattle.strand_events.specs.Trace.{value_in, is_persist, value_at, event_is, core_event_is}
+use Rattle.strand_events.specs.Trace.{value_in, is_persist, value_at, event_is, core_event_is, persist_number}
 use Rattle.strand_events.specs.Order.{set_of}
 use Rattle.strand_events.proofs.LongerTrace.{event_is_kept, word_kept, number_kept, epoch_kept}
 use Rattle.strand_rules.specs.Cycle.{State, is_item, buffer_of}
 use Rattle.strand_rules.proofs.Marks.{held_more}
 use Rattle.strand_rules.proofs.MarkSets.{held_grown}
 use Rattle.strand_buffer.specs.Entries.{from_open}
-use Rattle.strand_machine.specs.Lists.{persist_number, is_of_buffer, listed, stage_of, entry_of, entries}
+use Rattle.strand_machine.specs.Lists.{is_of_buffer, listed, stage_of, entry_of, entries}
 use Rattle.strand_rules.proofs.Buffers.RingEvent.{state_of, accepted_kept, accepted_new}
 use Rattle.strand_tags.proofs.LongerTrace.{list_grown}
 use Rattle.strand_machine.proofs.Stand.PersistWaits.{wait_longer}

@@ -42,11 +42,6 @@ pub open_again : {X : Type 0} (done more : X → Bool) (xs : List X) → ((x : X
 open_again done more [] so = refl
 open_again done more (x ∷ xs) so = elim (cases_Bool (done x)) [ inl yes_ ↦ rw (yes_, so x yes_) (open_again done more xs so) | inr no_ ↦ rw no_ refl ]
 
--- the first element that is left isn't done
-pub open_first : {X : Type 0} (done : X → Bool) (xs ys : List X) (y : X) → from_open done xs ≡ y ∷ ys → done y ≡ false
-open_first done [] ys y e = absurd (cc e)
-open_first done (x ∷ xs) ys y e = elim (cases_Bool (done x)) [ inl yes_ ↦ open_first done xs ys y (rw yes_ at e) | inr no_ ↦ (let same : x ∷ xs ≡ y ∷ ys = rw no_ at e in let first : x ≡ y = cc in ap done (sym first) ∙ no_) ]
-
 pub open_map : {X Y : Type 0} (f : X → Y) (done : Y → Bool) (xs : List X) → from_open done (map f xs) ≡ map f (from_open (λ x. done (f x)) xs)
 open_map f done [] = refl
 open_map f done (x ∷ xs) = elim (cases_Bool (done (f x))) [ inl yes_ ↦ rw yes_ (open_map f done xs) | inr no_ ↦ rw no_ refl ]

@@ -6,7 +6,7 @@ use Rattle.std.proofs.lemmas.List.{map-append}
 use Rattle.strand_base.specs.Counting.{count_below, list_below}
 use Rattle.strand_base.proofs.BelowBound.{list_agree, at_or_below}
 use Rattle.strand_inputs.specs.Settings.{Settings}
-use Rattle.strand_events.specs.Trace.{is_persist, core_at, word_at, value_at, event_is, core_event_is, strand_number, epoch}
+use Rattle.strand_events.specs.Trace.{is_persist, core_at, word_at, value_at, event_is, core_event_is, strand_number, epoch, persist_number}
 use Rattle.strand_events.specs.Order.{set_of}
 use Rattle.strand_rules.specs.Cycle.{State, is_item, gone, front, is_dispatched, is_accepted, buffer_of, item_after}
 use Rattle.strand_rules.specs.DispatchedPersists.{AreParts}
@@ -18,7 +18,7 @@ use Rattle.strand_buffer.specs.declared.entry.Stage.TheVariants.{Buffered, Sent,
 use Rattle.strand_buffer.specs.Entries.{from_open}
 use Rattle.strand_tags.specs.Traces.{noted_wait}
 use Rattle.strand_machine.proofs.Lists.FromOpen.{open_more}
-use Rattle.strand_machine.specs.Lists.{persist_number, is_of_buffer, listed, stage_of, entry_of, entries}
+use Rattle.strand_machine.specs.Lists.{is_of_buffer, listed, stage_of, entry_of, entries}
 use Rattle.strand_machine.proofs.Lists.SendWrite.{map_on, listed_member}
 
 -- numbers below a bound that pass one test: those that pass the other, and one number more after them

@@ -1,17 +1,15 @@
 -- Serves clause step of Machine::step at a dispatch: the room for the first item of a queue.
 -- The ring of the strand of a core's first queued item by the list of its buffer, and the number of that strand.
 use Rattle.std.proofs.Common.{◌≡◌, ℕ, suc, ◌+◌, ◌<◌, ◌≤◌, Bool, true, false, ◌&&◌, ◌||◌, inl, inr, List, length, refl, sym, ap, subst, ◌∙◌, arith}
-use Rattle.std.specs.Prelude.{not, nat_lt, ◌==◌, ◌%◌, slice_get, slice_index, Some, None}
-use Rattle.std.specs.declared.option.Option.{Option}
-use Rattle.std.proofs.lemmas.Bool.{cases_lt, and_parts, and_from, not-true, both_ways, eqb-true, eq-eqb, ltb-true, lt-ltb, or_right, false≢true, false_from_ne_true}
+use Rattle.std.specs.Prelude.{not, nat_lt, ◌==◌, ◌%◌, slice_get, slice_index, Some}
+use Rattle.std.proofs.lemmas.Bool.{cases_lt, and_parts, and_from, not-true, both_ways, eqb-true, eq-eqb, ltb-true, lt-ltb, or_right, false_from_ne_true}
 use Rattle.strand_base.specs.Counting.{count_below, any_below}
 use Rattle.strand_base.proofs.BelowBound.{any_true, any_from, count_agree, count_flat, count_mono, count_strict, list_length}
 use Rattle.strand_inputs.specs.Settings.{Settings}
 use Rattle.strand_inputs.specs.declared.mode.Mode.{Mode}
 use Rattle.strand_inputs.specs.declared.mode.Mode.TheVariants.{Strict, Epoch, Strand}
 use Rattle.strand_events.specs.declared.event.Event.{Event}
-use Rattle.strand_events.specs.declared.event.Event.TheVariants as events
-use Rattle.strand_events.specs.Trace.{passes, is_persist, is_barrier, is_new_strand, core_at, event_is, core_event_is, strand_number, same_strand}
+use Rattle.strand_events.specs.Trace.{is_persist, is_barrier, is_new_strand, core_at, event_is, core_event_is, strand_number, same_strand}
 use Rattle.strand_events.specs.Order.{set_of}
 use Rattle.strand_events.proofs.PersistOrder.Epochs.{weaker, strand_parts, strand_from}
 use Rattle.strand_rules.specs.Cycle.{State, is_item, gone, front, is_dispatched, is_accepted, is_of_ring, ring_use, buffer_of}
@@ -19,7 +17,7 @@ use Rattle.strand_rules.proofs.Ranks.{rank}
 use Rattle.strand_rules.proofs.PartsAreKept.{accepted_rank}
 use Rattle.strand_rules.proofs.Front.{found, accepted_past}
 use Rattle.strand_rules.proofs.Buffers.OneStrand.{strand_begin}
-use Rattle.strand_rules.proofs.Buffers.Begin.{Begins, begins_none}
+use Rattle.strand_rules.proofs.Buffers.Begin.{Begins, found_strand}
 use Rattle.strand_rules.proofs.Buffers.Run.{IsFit}
 use Rattle.strand_machine.proofs.Lists.FromOpen.{is_used, open_below}
 use Rattle.strand_machine.specs.Lists.{is_of_buffer, listed, begun}
@@ -121,15 +119,6 @@ module _ (g : Settings) (s : State) (n k : ℕ) (first : front g s n ≡ Some k)
         ∙ list_length (length s.now.trace) (is_used (is_of_buffer g s n b) (set_of s.durable))
         ∙ count_agree (length s.now.trace) (is_used (is_of_buffer g s n b) (set_of s.durable)) (is_used (is_of_ring g s n k) (set_of s.durable)) (λ p lt. used_alike p)
 
-no_begin_item : (o : Option Event) → passes (is_item Epoch) o ≡ true → passes is_new_strand o ≡ true → ⊥
-no_begin_item None item begins = false≢true item
-no_begin_item (Some (events.NewStrand core)) item begins = false≢true item
-no_begin_item (Some (events.Load core word)) item begins = false≢true begins
-no_begin_item (Some (events.Store persist core word value)) item begins = false≢true begins
-no_begin_item (Some (events.Barrier core)) item begins = false≢true begins
-no_begin_item (Some (events.Join core)) item begins = false≢true begins
-no_begin_item (Some (events.Out core value)) item begins = false≢true begins
-
 begin_item : (e : Event) → is_new_strand e ≡ true → is_item Strand e ≡ true
 begin_item e h = or_right (is_persist e || is_barrier e) (is_new_strand e) h
 
@@ -152,12 +141,12 @@ begun_by_front g s n k first = go g.mode refl
     flat : begun g s n ≡ count_below k began
     flat = count_flat k (length s.now.trace) began (let inside = (found g s n k first).0 in omega (arith, inside)) (λ i le lt. late i le)
 
-    none : (m : Mode) → m ≡ g.mode → ((o : Option Event) → passes (is_item m) o ≡ true → passes is_new_strand o ≡ true → ⊥) → count_below k began ≡ 0
+    none : (m : Mode) → m ≡ g.mode → (m ≡ Strand → ⊥) → count_below k began ≡ 0
     none m is apart = count_flat 0 k began (omega arith) (λ i le lt. false_from_ne_true (began i) (λ h.
         let one = and_parts (is_dispatched g s n i) (event_is is_new_strand s.now.trace i) h in
         let two = and_parts (item g s n k first i) (nat_lt (count_below i (item g s n k first)) (gone s n)) one.0 in
         let three = and_parts (event_is (is_item g.mode) s.now.trace i) (core_at s.now.trace i == n) two.0 in
-        apart (slice_get s.now.trace i) (ap (λ x. event_is (is_item x) s.now.trace i) is ∙ three.0) one.1))
+        apart (found_strand m (slice_get s.now.trace i) one.1 (ap (λ x. event_is (is_item x) s.now.trace i) is ∙ three.0))))
 
     all : Strand ≡ g.mode → (i : ℕ) → i < k → began i ≡ core_event_is is_new_strand n s.now.trace i
     all is i lt = alike (began i) (core_event_is is_new_strand n s.now.trace i)
@@ -174,6 +163,6 @@ begun_by_front g s n k first = go g.mode refl
         and_from (is_dispatched g s n i) (event_is is_new_strand s.now.trace i) (and_from (item g s n k first i) (nat_lt (count_below i (item g s n k first)) (gone s n)) item_i (lt-ltb (count_below i (item g s n k first)) (gone s n) (omega (arith, fewer, (found g s n k first).2)))) both.0)
 
     go : (m : Mode) → m ≡ g.mode → begun g s n ≡ strand_number m s.now.trace k
-    go Strict is = flat ∙ none Strict is (λ o item begins. begins_none o begins item)
-    go Epoch is = flat ∙ none Epoch is no_begin_item
+    go Strict is = flat ∙ none Strict is (λ e. cc e)
+    go Epoch is = flat ∙ none Epoch is (λ e. cc e)
     go Strand is = flat ∙ count_agree k began (core_event_is is_new_strand n s.now.trace) (all is) ∙ ap (λ c. count_below k (core_event_is is_new_strand c s.now.trace)) (sym is_core)

@@ -6,7 +6,7 @@ use Rattle.strand_base.specs.Counting.{list_below}
 use Rattle.strand_base.proofs.BelowBound.{list_get}
 use Rattle.strand_inputs.specs.Settings.{Settings}
 use Rattle.strand_events.specs.declared.event.Event.{Event}
-use Rattle.strand_events.specs.Trace.{is_persist, event_is, strand_number}
+use Rattle.strand_events.specs.Trace.{is_persist, event_is, strand_number, persist_number}
 use Rattle.strand_events.specs.Order.{set_of}
 use Rattle.strand_rules.specs.Cycle.{State, is_accepted, is_dispatched, buffer_of, send_after, write_after}
 use Rattle.strand_rules.proofs.Marks.{held_set, held_other}
@@ -17,7 +17,7 @@ use Rattle.strand_buffer.specs.declared.entry.Stage.TheVariants.{Buffered, Sent,
 use Rattle.strand_buffer.specs.Entries.{from_open, is_open, trimmed}
 use Rattle.strand_buffer.specs.Buffers.{with_stage}
 use Rattle.strand_machine.proofs.Lists.FromOpen.{is_used, open_below, open_again, open_map}
-use Rattle.strand_machine.specs.Lists.{persist_number, is_of_buffer, listed, stage_of, entry_of, entries}
+use Rattle.strand_machine.specs.Lists.{is_of_buffer, listed, stage_of, entry_of, entries}
 
 not_not : (x : Bool) → not (not x) ≡ x
 not_not true = refl

@@ -18,7 +18,7 @@ use Rattle.strand_events.specs.declared.event.Event.{Event}
 use Rattle.strand_events.specs.declared.event.Event.TheVariants as events
 use Rattle.strand_events.specs.Trace.{is_access}
 use Rattle.strand_events.proofs.TraceInvariant.{count_most}
-use Rattle.strand_rules.specs.Visible.{Program, Visible, event_of, grown, memory_after, moved_by, moved_in, next_plan, plan_by, plan_in, retire}
+use Rattle.strand_rules.specs.Visible.{Program, Visible, event_of, with_event, memory_after, moved_by, moved_in, next_plan, plan_by, plan_in, retire}
 use Rattle.strand_rules.specs.Cycle.{State, start_at}
 use Rattle.strand_cache.specs.declared.change.Change.{Change}
 use Rattle.strand_cache.specs.declared.change.Change.TheVariants.{Read, Merge}
@@ -27,7 +27,7 @@ use Rattle.strand_cache.specs.Accesses.{LineAccess, core_at}
 use Rattle.strand_cache.specs.Changes as changes
 use Rattle.strand_cache.specs.Changes.{access_of}
 use Rattle.strand_cache.specs.Hits.{Shape, hit, shape_of}
-use Rattle.strand_cache.specs.Seen.{Seen, CachesStand, counted, empty_caches, no_counts, one_more}
+use Rattle.strand_cache.specs.Seen.{Seen, CachesStand, access_counted, empty_caches, none_counted, one_more}
 use Rattle.strand_cache.specs.Totals.{hits_of, misses_of}
 use Rattle.strand_cache.proofs.Lists.Totals.{hits_step, misses_step}
 use Rattle.strand_machine.specs.Cached.{CacheStands, accesses_of, core_counts, line_access}
@@ -58,15 +58,15 @@ module _ (shape : Shape) (xs : List LineAccess) (x : LineAccess) (hits : Bool) (
   one_miss = let most = count_most (length xs) (λ j. (core_at xs j == x.core) && not (hit shape xs j)) in omega (arith, most, few)
 
   counted_by : (own yes_ : Bool) (a b : ℕ) → one_more a ≡ suc a → one_more b ≡ suc b → own ≡ true
-      → counted yes_ (record { hits = a; misses = b }) ≡ record { hits = if own && yes_ then suc a else a; misses = if own && not yes_ then suc b else b }
+      → access_counted yes_ (record { hits = a; misses = b }) ≡ record { hits = if own && yes_ then suc a else a; misses = if own && not yes_ then suc b else b }
   counted_by own true a b hit_ miss is = rw is (λ i. record { hits = hit_ i; misses = b })
   counted_by own false a b hit_ miss is = rw is (λ i. record { hits = a; misses = miss i })
 
   -- the counts of the access's core
-  counts_own : counted hits (totals shape xs x.core) ≡ totals shape (xs ++ x ∷ []) x.core
+  counts_own : access_counted hits (totals shape xs x.core) ≡ totals shape (xs ++ x ∷ []) x.core
   counts_own =
       let step = counted_by (x.core == x.core) (hit shape (xs ++ x ∷ []) (length xs)) (hits_of shape x.core xs) (misses_of shape x.core xs) one_hit one_miss (eq-eqb x.core x.core refl) in
-      ap (λ h. counted h (totals shape xs x.core)) hits_is ∙ step ∙ (λ i. record { hits = sym (hits_step shape x.core xs x) i; misses = sym (misses_step shape x.core xs x) i })
+      ap (λ h. access_counted h (totals shape xs x.core)) hits_is ∙ step ∙ (λ i. record { hits = sym (hits_step shape x.core xs x) i; misses = sym (misses_step shape x.core xs x) i })
 
   -- and those of another core
   counts_other : (n : ℕ) → n ≢ x.core → totals shape xs n ≡ totals shape (xs ++ x ∷ []) n
@@ -80,25 +80,25 @@ module _ (shape : Shape) (xs : List LineAccess) (x : LineAccess) (hits : Bool) (
   abbrev all_totals : List LineAccess → ℕ → List Counts
   all_totals ys count = map (totals shape ys) (range_with_len 0 count)
 
-  at : (ys : List LineAccess) (count n : ℕ) → n < count → slice_index_or (all_totals ys count) n no_counts ≡ totals shape ys n
-  at ys count n lt = get_or-map-range_with_len (totals shape ys) 0 count n n no_counts lt (omega arith)
+  at : (ys : List LineAccess) (count n : ℕ) → n < count → slice_index_or (all_totals ys count) n none_counted ≡ totals shape ys n
+  at ys count n lt = get_or-map-range_with_len (totals shape ys) 0 count n n none_counted lt (omega arith)
 
-  pub counts_step : (count : ℕ) → x.core < count → slice_set (all_totals xs count) x.core (counted hits (slice_index_or (all_totals xs count) x.core no_counts)) ≡ all_totals (xs ++ x ∷ []) count
+  pub counts_step : (count : ℕ) → x.core < count → slice_set (all_totals xs count) x.core (access_counted hits (slice_index_or (all_totals xs count) x.core none_counted)) ≡ all_totals (xs ++ x ∷ []) count
   counts_step count there =
-      let new : Counts = counted hits (slice_index_or (all_totals xs count) x.core no_counts) in
+      let new : Counts = access_counted hits (slice_index_or (all_totals xs count) x.core none_counted) in
       let size : length (all_totals xs count) ≡ count = length-map-range_with_len (totals shape xs) 0 count in
       let longer : length (slice_set (all_totals xs count) x.core new) ≡ count = length-set (all_totals xs count) x.core new ∙ size in
-      ext_get_or no_counts (slice_set (all_totals xs count) x.core new) (all_totals (xs ++ x ∷ []) count)
+      ext_get_or none_counted (slice_set (all_totals xs count) x.core new) (all_totals (xs ++ x ∷ []) count)
       (longer ∙ sym (length-map-range_with_len (totals shape (xs ++ x ∷ [])) 0 count))
       (λ i lt.
       let below : i < count = omega (arith, lt, longer) in
       (elim (cases_eq i x.core) [
         | inl e ↦
-            ap (λ i. slice_index_or (slice_set (all_totals xs count) x.core new) i no_counts) e
-            ∙ get_or-set_same (all_totals xs count) x.core new no_counts (omega (arith, there, size))
-            ∙ ap (counted hits) (at xs count x.core there) ∙ counts_own
-            ∙ sym (ap (λ i. slice_index_or (all_totals (xs ++ x ∷ []) count) i no_counts) e ∙ at (xs ++ x ∷ []) count x.core there)
-        | inr ne ↦ get_or-set_other (all_totals xs count) x.core i new no_counts ne ∙ at xs count i below ∙ counts_other i ne ∙ sym (at (xs ++ x ∷ []) count i below)
+            ap (λ i. slice_index_or (slice_set (all_totals xs count) x.core new) i none_counted) e
+            ∙ get_or-set_same (all_totals xs count) x.core new none_counted (omega (arith, there, size))
+            ∙ ap (access_counted hits) (at xs count x.core there) ∙ counts_own
+            ∙ sym (ap (λ i. slice_index_or (all_totals (xs ++ x ∷ []) count) i none_counted) e ∙ at (xs ++ x ∷ []) count x.core there)
+        | inr ne ↦ get_or-set_other (all_totals xs count) x.core i new none_counted ne ∙ at xs count i below ∙ counts_other i ne ∙ sym (at (xs ++ x ∷ []) count i below)
       ]))
 
 -- caches that stay stand for a state with the same cores, memory and accesses
@@ -132,7 +132,7 @@ cache_more g s s' cache cache' n word change e stand made there few count memory
       memory = made.memory ∙ ap (changes.memory_after change word) stand.memory ∙ sym memory;
       accesses = subst (CachesStand cache') (sym longer) ends.1;
       counts = made.counts
-          ∙ ap (λ cs. slice_set cs n (counted hits (slice_index_or cs n no_counts))) stand.counts
+          ∙ ap (λ cs. slice_set cs n (access_counted hits (slice_index_or cs n none_counted))) stand.counts
           ∙ counts_step shape xs x hits hits_is (omega (arith, most, few)) (length s.now.cores) there
           ∙ ap (λ k. map (totals shape (xs ++ x ∷ [])) (range_with_len 0 k)) (sym count)
           ∙ ap (λ ys. map (totals shape ys) (range_with_len 0 (length s'.now.cores))) (sym longer);
@@ -140,10 +140,10 @@ cache_more g s s' cache cache' n word change e stand made there few count memory
 
 -- after an instruction that asks this, the caches that it went through stand for the state
 module _ (g : Settings) (s s' : State) (cache cache' : Seen) (n : ℕ) (stand : CacheStands g s cache) (there : n < length s.now.cores) (few : length s.now.trace < 2 ^ 32) (count : length s'.now.cores ≡ length s.now.cores) where
-  still : (o : Option Event) → accesses_of (grown s.now.trace o) ≡ accesses_of s.now.trace → cache' ≡ cache → s'.now.memory ≡ s.now.memory → s'.now.trace ≡ grown s.now.trace o → CacheStands g s' cache'
+  still : (o : Option Event) → accesses_of (with_event s.now.trace o) ≡ accesses_of s.now.trace → cache' ≡ cache → s'.now.memory ≡ s.now.memory → s'.now.trace ≡ with_event s.now.trace o → CacheStands g s' cache'
   still o none same memory trace = cache_kept g s s' cache cache' stand same count memory (ap accesses_of trace ∙ none)
 
-  pub cache_after : (asked : Plan) → GoesThrough cache cache' n asked → s'.now.memory ≡ memory_after s.now.memory asked → s'.now.trace ≡ grown s.now.trace (event_of n s.now.memory asked) → CacheStands g s' cache'
+  pub cache_after : (asked : Plan) → GoesThrough cache cache' n asked → s'.now.memory ≡ memory_after s.now.memory asked → s'.now.trace ≡ with_event s.now.trace (event_of n s.now.memory asked) → CacheStands g s' cache'
   cache_after (Load word) made memory trace = cache_more g s s' cache cache' n word Read (events.Load n word) stand made there few count memory trace refl refl
   cache_after (Store word mask bits) made memory trace = cache_more g s s' cache cache' n word (Merge mask bits) _ stand made there few count memory trace refl refl
   cache_after Plain made memory trace = still None refl made memory trace
@@ -179,5 +179,5 @@ cache_start g cs memory stand = record {
   shape = refl;
   memory = refl;
   accesses = stand;
-  counts = splat_is_map (range_with_len 0 (length cs)) (length cs) no_counts (length-range_with_len 0 (length cs));
+  counts = splat_is_map (range_with_len 0 (length cs)) (length cs) none_counted (length-range_with_len 0 (length cs));
 }

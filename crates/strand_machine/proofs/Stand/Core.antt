@@ -12,13 +12,13 @@ use Rattle.strand_exec.specs.Core.{Extents}
 use Rattle.strand_exec.specs.Memory.{Memory}
 use Rattle.strand_inputs.specs.Settings.{Settings}
 use Rattle.strand_events.specs.declared.event.Event.{Event}
-use Rattle.strand_events.specs.Trace.{passes, value_in, is_access, is_persist, is_barrier, is_new_strand, core_of, word_of, core_at, value_at, event_is, core_event_is, strand_number, epoch}
+use Rattle.strand_events.specs.Trace.{passes, value_in, is_access, is_persist, is_barrier, is_new_strand, core_of, word_of, core_at, value_at, event_is, core_event_is, strand_number, epoch, persist_number}
 use Rattle.strand_events.proofs.LongerTrace.{event_is_kept, core_kept, word_kept, core_event_kept, number_kept, epoch_kept}
 use Rattle.strand_rules.specs.Cycle.{State, is_item, items, gone, is_dispatched, is_accepted}
 use Rattle.strand_rules.specs.Looking.{next_strand}
 use Rattle.strand_rules.proofs.Order.Sets.Event.{items_kept, length_grown}
 use Rattle.strand_buffer.specs.Buffers.{Buffers}
-use Rattle.strand_machine.specs.Lists.{persist_number, begun}
+use Rattle.strand_machine.specs.Lists.{begun}
 use Rattle.strand_machine.specs.Stand.{item_of, queue_items, request_at, requests, last_below, last_number, last_epoch, last_access, BuffersStand, TagsStand}
 use Rattle.strand_exec.specs.Plan.{IsWord}
 use Rattle.strand_inputs.specs.declared.mode.Mode.{Mode}

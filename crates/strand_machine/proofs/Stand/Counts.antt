@@ -11,10 +11,11 @@ use Rattle.strand_inputs.specs.declared.mode.Mode.{Mode}
 use Rattle.strand_inputs.specs.declared.mode.Mode.TheVariants.{Strict, Epoch, Strand}
 use Rattle.strand_events.specs.declared.event.Event.{Event}
 use Rattle.strand_events.specs.declared.event.Event.TheVariants as events
-use Rattle.strand_events.specs.Trace.{is_barrier, word_in, is_access, is_new_strand, is_persist, is_store, core_of, word_of, core_at, event_is, core_event_is, persists_of}
+use Rattle.strand_events.specs.Trace.{is_barrier, word_in, is_access, is_new_strand, is_persist, is_store, core_of, word_of, core_at, event_is, core_event_is, persists_of, persist_number}
 use Rattle.strand_events.specs.Order.{Set, set_of}
 use Rattle.strand_events.proofs.TraceInvariant.{count_most, last_is}
 use Rattle.strand_events.proofs.LongerTrace.{event_is_kept, core_event_kept}
+use Rattle.strand_events.proofs.PersistOrder.Epochs.{barrier_begins_none}
 use Rattle.strand_rules.specs.Cycle.{is_item}
 use Rattle.strand_rules.specs.Looking.{next_strand}
 use Rattle.strand_rules.proofs.Next.{core_new, number_new}
@@ -26,7 +27,6 @@ use Rattle.strand_tags.specs.Access.{Access, access, noted_as}
 use Rattle.strand_events.specs.Prefixes.{leading, core_persists, durable_prefix, made_below}
 use Rattle.strand_tags.specs.Traces.{access_at, noted_wait, noted_at, noted_accesses}
 use Rattle.strand_tags.proofs.LongerTrace.{list_grown, made_kept, access_noted}
-use Rattle.strand_machine.specs.Lists.{persist_number}
 use Rattle.strand_machine.proofs.Lists.FromOpen.{map_below}
 
 -- the next event, which is an access, as tags are asked of it
@@ -130,16 +130,8 @@ new_strand_item mode e item no_ none = (and_parts (is_item mode e) (is_new_stran
 pub persist_begins : (mode : Mode) (e : Event) → is_persist e ≡ true → begins mode e ≡ false
 persist_begins mode e is = no_begin mode e (false_from_ne_true (is_new_strand e) (λ h. begins_none (Some e) h is))
 
-pub barrier_none : (e : Event) → is_barrier e ≡ true → is_new_strand e ≡ false
-barrier_none (events.NewStrand core) h = absurd (true≢false (sym h))
-barrier_none (events.Load core word) h = refl
-barrier_none (events.Store persist core word value) h = refl
-barrier_none (events.Barrier core) h = refl
-barrier_none (events.Join core) h = refl
-barrier_none (events.Out core value) h = refl
-
 pub barrier_begins : (mode : Mode) (e : Event) → is_barrier e ≡ true → begins mode e ≡ false
-barrier_begins mode e is = no_begin mode e (barrier_none e is)
+barrier_begins mode e is = no_begin mode e (barrier_begins_none e is)
 
 -- its strand number is at most the number of events
 pub next_most : (mode : Mode) (t : List Event) (n : ℕ) → next_strand mode t n ≤ length t

@@ -10,7 +10,7 @@ use Rattle.strand_exec.specs.Memory.{Memory}
 use Rattle.strand_inputs.specs.Settings.{Settings}
 use Rattle.strand_inputs.specs.declared.conflict.Conflict.TheVariants.{Tag}
 use Rattle.strand_events.specs.declared.event.Event.{Event}
-use Rattle.strand_events.specs.Trace.{is_persist, is_barrier, is_new_strand, core_of, core_event_is}
+use Rattle.strand_events.specs.Trace.{is_persist, is_barrier, is_new_strand, core_of, core_event_is, persist_number}
 use Rattle.strand_events.specs.Order.{set_of}
 use Rattle.strand_events.proofs.TraceInvariant.{last_is}
 use Rattle.strand_rules.specs.Cycle.{State, is_item, gone}
@@ -26,7 +26,6 @@ use Rattle.strand_cache.specs.Seen.{Seen}
 use Rattle.strand_events.specs.Prefixes.{core_persists, durable_prefix}
 use Rattle.strand_tags.proofs.ConflictWaits.{keeps_other}
 use Rattle.strand_tags.proofs.LongerTrace.{prefix_kept}
-use Rattle.strand_machine.specs.Lists.{persist_number}
 use Rattle.strand_machine.specs.Cached.{CacheStands}
 use Rattle.strand_machine.specs.Changed.{tallied, with_item}
 use Rattle.strand_machine.specs.Stand.{item_of, queue_items, BuffersStand, TagsStand, Tally, TallyStands, PartsSeen, Stand, Waiting, no_queue, no_tally, persist_waits, queue_at, buffers_at, tally_at}

@@ -12,7 +12,7 @@ use Rattle.strand_base.proofs.BelowBound.{count_agree, count_strict}
 use Rattle.strand_base.proofs.ListBelow.{list_at}
 use Rattle.strand_exec.specs.Core.{Extents}
 use Rattle.strand_inputs.specs.Settings.{Settings}
-use Rattle.strand_events.specs.Trace.{is_persist, is_barrier, is_new_strand, core_at, word_at, value_at, event_is, core_event_is, strand_number, epoch, persists_of}
+use Rattle.strand_events.specs.Trace.{is_persist, is_barrier, is_new_strand, core_at, word_at, value_at, event_is, core_event_is, strand_number, epoch, persists_of, persist_number}
 use Rattle.strand_events.proofs.PersistOrder.Epochs.{epochs_rise, strand_from}
 use Rattle.strand_rules.specs.Cycle.{State, is_item, gone, front, is_dispatched, is_accepted, buffer_of, item_after, ring_use}
 use Rattle.strand_rules.specs.DispatchedPersists.{AreParts}
@@ -24,7 +24,7 @@ use Rattle.strand_buffer.specs.declared.entry.Stage.TheVariants.{Buffered}
 use Rattle.strand_buffer.specs.Buffers as buffers
 use Rattle.strand_buffer.specs.Buffers.{Buffers, list_in, current, has_room, accepted}
 use Rattle.strand_queue.specs.Queue.{Queue, queue}
-use Rattle.strand_machine.specs.Lists.{persist_number, entries, listed, entry_of, begun}
+use Rattle.strand_machine.specs.Lists.{entries, listed, entry_of, begun}
 use Rattle.strand_tags.specs.Traces.{noted_wait}
 use Rattle.strand_machine.specs.Changed.{taken, wait_at, with_dispatched}
 use Rattle.strand_machine.specs.Stand.{BuffersStand, PartsSeen, Stand, Tally, TallyStands, no_buffers, no_queue, queue_at, buffers_at, tally_at, item_of, queue_items, last_below, last_number, last_epoch, persist_waits}
@@ -149,7 +149,7 @@ module _ (g : Settings) (s : State) (n k : ℕ) (first : front g s n ≡ Some k)
       ]
 
   -- a begin of a strand begins it in the buffers
-  buffers_begun : (bs : Buffers) → event_is is_persist s.now.trace k ≡ false → event_is is_new_strand s.now.trace k ≡ true → BuffersStand g s n bs → BuffersStand g then_ n (buffers.begun bs)
+  buffers_begun : (bs : Buffers) → event_is is_persist s.now.trace k ≡ false → event_is is_new_strand s.now.trace k ≡ true → BuffersStand g s n bs → BuffersStand g then_ n (buffers.strand_begun bs)
   buffers_begun bs no_ yes_ stand = record {
     ring = stand.ring;
     buffers = stand.buffers;

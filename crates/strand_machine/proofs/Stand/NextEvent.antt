@@ -2,7 +2,7 @@
 use Rattle.std.proofs.Common.{◌≡◌, ℕ, suc, ◌+◌, ◌-◌, ◌<◌, ◌≤◌, Bool, true, false, inl, inr, List, [], ◌∷◌, ◌++◌, length, refl, sym, ap, subst, ◌∙◌, arith}
 use Rattle.std.specs.Prelude.{◌^◌, slice_get, slice_index, Some, None, if◌then◌else◌}
 use Rattle.std.specs.declared.option.Option.{Option}
-use Rattle.std.proofs.lemmas.Bool.{cases_Bool, true≢false}
+use Rattle.std.proofs.lemmas.Bool.{cases_Bool}
 use Rattle.std.proofs.lemmas.List.{length-map, length-set}
 use Rattle.std.proofs.lemmas.Option.{slice_get_within}
 use Rattle.strand_base.specs.declared.limits.TheConstants.{CORE_ROOM}
@@ -14,10 +14,11 @@ use Rattle.strand_inputs.specs.Settings.{Settings}
 use Rattle.strand_exec.specs.Core.{Extents}
 use Rattle.strand_events.specs.declared.event.Event.{Event}
 use Rattle.strand_events.specs.declared.event.Event.TheVariants as events
-use Rattle.strand_events.specs.Trace.{core_of, word_of, is_access, is_store, is_persist, is_barrier, is_new_strand, event_is, core_event_is, epoch, passes, persists_of, value_at, value_in, word_at, word_in}
+use Rattle.strand_events.specs.Trace.{core_of, word_of, is_access, is_store, is_persist, is_barrier, event_is, core_event_is, epoch, passes, persists_of, value_at, value_in, word_at, word_in, persist_number}
 use Rattle.strand_events.specs.Vectors.{waits_after}
 use Rattle.strand_events.proofs.TraceInvariant.{last_is}
-use Rattle.strand_rules.specs.Visible.{Visible, grown, retire}
+use Rattle.strand_events.proofs.PersistOrder.Epochs.{access_begins_none}
+use Rattle.strand_rules.specs.Visible.{Visible, with_event, retire}
 use Rattle.strand_rules.specs.Cycle.{State, gone, is_item, core_after, next_event}
 use Rattle.strand_rules.specs.Looking.{next_strand}
 use Rattle.strand_rules.specs.Machine.{Machine}
@@ -38,7 +39,6 @@ use Rattle.strand_events.specs.Prefixes.{core_persists, made_below}
 use Rattle.strand_cache.specs.Seen.{Seen}
 use Rattle.strand_machine.specs.Cached.{CacheStands}
 use Rattle.strand_machine.specs.Changed.{Notes, tallied, with_made}
-use Rattle.strand_machine.specs.Lists.{persist_number}
 use Rattle.strand_machine.specs.Machine.{FitsCore, IsRingMachine, RingMachine}
 use Rattle.strand_machine.specs.Stand.{PartsSeen, Stand, Tally, TagsStand, Waiting, item_at, newest_item, no_tally, persist_waits, tally_at}
 use Rattle.strand_machine.proofs.Stand.Counts.{next_access, no_begin, own_count, strand_grown}
@@ -55,14 +55,6 @@ pub record IsNext (r : RingMachine) (n : ℕ) (e : Event) : Type 0 where
   pub there : n < length r.machine.state.now.cores
   pub fits : FitsCore r.machine.program.sizes n e
   pub next : next_event r.machine.program r.machine.state.now n ≡ Some e
-
-access_none : (e : Event) → is_access e ≡ true → is_new_strand e ≡ false
-access_none (events.NewStrand core) h = absurd (true≢false (sym h))
-access_none (events.Load core word) h = refl
-access_none (events.Store persist core word value) h = refl
-access_none (events.Barrier core) h = refl
-access_none (events.Join core) h = refl
-access_none (events.Out core value) h = refl
 
 pub made_tags : (m : PartsSeen) (n : ℕ) (o : Option Item) → (with_made m n o).tags ≡ m.tags
 made_tags m n None = refl
@@ -130,7 +122,7 @@ module _ (r : RingMachine) (e : Event) (is : IsNext r (core_of e) e) where
 
   after_is : core_after r.machine.program s n (Some e) ≡ then_
   after_is = ap (λ (t : List Event). record s { now = record { cores = v.cores; memory = v.memory; trace = t }; retired = retired; buffered = s.buffered ++ false ∷ []; durable = s.durable ++ false ∷ [] })
-      (retired_trace r.machine.program s.now n ∙ ap (grown t) is.next)
+      (retired_trace r.machine.program s.now n ∙ ap (with_event t) is.next)
 
   same_cores : length v.cores ≡ length s.now.cores
   same_cores = retired_cores r.machine.program s.now n
@@ -161,7 +153,7 @@ module _ (r : RingMachine) (e : Event) (is : IsNext r (core_of e) e) where
 
   strand_is : is_access e ≡ true → (tally_at (with_made r.parts n (made_of g.mode t e)) n).strand ≡ next_strand g.mode t n
   strand_is yes_ =
-      let none = no_begin g.mode e (access_none e yes_) in
+      let none = no_begin g.mode e (access_begins_none e yes_) in
       tally_stands.strand ∙ strand_grown g.mode t e n ∙ (rw none (omega arith))
 
   -- an access of it can be asked of the tags

@@ -13,7 +13,7 @@ use Rattle.strand_events.specs.Trace.{core_of, word_of, is_access, is_store, is_
 use Rattle.strand_events.proofs.TraceInvariant.{count_most}
 use Rattle.strand_rules.specs.declared.turn.Cause.TheVariants as causes
 use Rattle.strand_rules.specs.declared.turn.Turn.TheVariants.{Done, Bubble}
-use Rattle.strand_rules.specs.Visible.{event_of, grown, loaded, memory_after, next_plan, plan_by, plan_in}
+use Rattle.strand_rules.specs.Visible.{event_of, with_event, loaded, memory_after, next_plan, plan_by, plan_in}
 use Rattle.strand_rules.specs.Pipeline.{IsReachedWithSome, retired_to, with_memory}
 use Rattle.strand_rules.proofs.Retire.Machine.{retired_reached, retires}
 use Rattle.strand_rules.specs.Cycle.{IsReached, State, access_waits, is_item, join_waits, made_turn, queued, core_after, event_in, next_event}
@@ -112,7 +112,7 @@ module _ (r : RingMachine) (n : ℕ) (request : Plan) (o : Option Event) (step :
       let s = r.machine.state in
       cache_after r.machine.config s (core_after r.machine.program s n o) r.parts.cache cache n step.holds.stand.cache step.there (omega (arith, kept.few_events, kept.made_within, kept.few_steps))
       (retired_cores r.machine.program s.now n) request made (retired_memory r.machine.program s.now n request step.asks)
-      (retired_trace r.machine.program s.now n ∙ ap (grown s.now.trace) (event_next ∙ step.event))
+      (retired_trace r.machine.program s.now n ∙ ap (with_event s.now.trace) (event_next ∙ step.event))
 
   pub none_next : o ≡ None → next_event r.machine.program r.machine.state.now n ≡ None
   none_next same = event_next ∙ same
@@ -150,7 +150,7 @@ module _ (r : RingMachine) (holds : IsRingMachine r) (n : ℕ) (next : next_even
   with_trace t = record quiet { now = record quiet.now { trace = t } }
 
   same_trace : quiet.now.trace ≡ r.machine.state.now.trace
-  same_trace = retired_trace r.machine.program r.machine.state.now n ∙ ap (grown r.machine.state.now.trace) next
+  same_trace = retired_trace r.machine.program r.machine.state.now n ∙ ap (with_event r.machine.state.now.trace) next
 
   pub stand_quiet : (cache : Seen) → CacheStands r.machine.config quiet cache → Stand r.machine.config r.machine.program.sizes quiet (record r.parts { cache = cache })
   stand_quiet cache cached = subst (λ t. Stand r.machine.config r.machine.program.sizes (with_trace t) (record r.parts { cache = cache }))
@@ -212,7 +212,7 @@ module _ (r : RingMachine) (n : ℕ) (e : Event) (is : IsNext r n e) (plain : Ma
   trace = r.machine.state.now.trace
 
   trace_is : plain.state.now.trace ≡ trace ++ e ∷ []
-  trace_is = ap (λ (m : Machine). m.state.now.trace) moved ∙ retired_trace r.machine.program r.machine.state.now n ∙ ap (grown trace) is.next
+  trace_is = ap (λ (m : Machine). m.state.now.trace) moved ∙ retired_trace r.machine.program r.machine.state.now n ∙ ap (with_event trace) is.next
 
   -- the event at the trace's end
   pub event_last : slice_get plain.state.now.trace (length plain.state.now.trace - 1) ≡ Some e

@@ -7,7 +7,7 @@ use Rattle.strand_base.specs.Counting.{list_below}
 use Rattle.strand_base.proofs.BelowBound.{list_get}
 use Rattle.strand_exec.specs.Core.{Extents}
 use Rattle.strand_inputs.specs.Settings.{Settings}
-use Rattle.strand_events.specs.Trace.{is_persist, core_at, event_is, strand_number}
+use Rattle.strand_events.specs.Trace.{is_persist, core_at, event_is, strand_number, persist_number}
 use Rattle.strand_events.specs.Order.{set_of}
 use Rattle.strand_rules.specs.Cycle.{State, is_accepted, buffer_of, send_after, write_after}
 use Rattle.strand_rules.specs.Machine.{durable_persists}
@@ -18,7 +18,7 @@ use Rattle.strand_buffer.specs.Entries.{trimmed}
 use Rattle.strand_buffer.specs.Buffers.{Buffers, list_in, with_stage, sent, released}
 use Rattle.strand_control.specs.Flight.{Flight}
 use Rattle.strand_events.specs.Prefixes.{leading}
-use Rattle.strand_machine.specs.Lists.{persist_number, is_of_buffer, listed, entry_of, entries}
+use Rattle.strand_machine.specs.Lists.{is_of_buffer, listed, entry_of, entries}
 use Rattle.strand_machine.specs.Changed.{advanced, with_sent, with_written}
 use Rattle.strand_machine.specs.Stand.{request_at, Tally, BuffersStand, TallyStands, PartsSeen, Stand, no_buffers, no_tally, buffers_at, tally_at}
 use Rattle.strand_machine.proofs.Stand.Cache.{cache_kept}

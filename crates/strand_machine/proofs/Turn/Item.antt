@@ -8,7 +8,7 @@ use Rattle.std.proofs.lemmas.List.{length-map}
 use Rattle.std.proofs.lemmas.Option.{none-some, same_Some}
 use Rattle.strand_inputs.specs.Settings.{Settings}
 use Rattle.strand_inputs.specs.declared.step.Step.TheVariants.{Dispatch}
-use Rattle.strand_events.specs.Trace.{is_persist, is_barrier, event_is, epoch, persists_of}
+use Rattle.strand_events.specs.Trace.{is_persist, is_barrier, event_is, epoch, persists_of, persist_number}
 use Rattle.strand_rules.specs.declared.turn.Cause.TheVariants as causes
 use Rattle.strand_rules.specs.declared.turn.Turn.{Turn}
 use Rattle.strand_rules.specs.declared.turn.Turn.TheVariants.{Done, Bubble}
@@ -26,7 +26,6 @@ use Rattle.strand_queue.specs.declared.item.Item.TheVariants.{Persist, Barrier, 
 use Rattle.strand_rules.proofs.WithMemory.{kept_with}
 use Rattle.strand_machine.specs.declared.machine.Machine.TheInside.{Inside}
 use Rattle.strand_machine.specs.KeptMachine.{IsKeptRingMachine, seen}
-use Rattle.strand_machine.specs.Lists.{persist_number}
 use Rattle.strand_machine.specs.Machine.{IsRingMachine, RingMachine}
 use Rattle.strand_tags.specs.Traces.{noted_wait}
 use Rattle.strand_machine.specs.Changed.{CanTake, HasWait, with_dispatched}

@@ -13,7 +13,7 @@ use Rattle.strand_inputs.specs.declared.step.Step.TheVariants.{Send, Write}
 use Rattle.strand_inputs.specs.Settings.{Settings}
 use Rattle.strand_base.specs.Places.{persistent_place, address_of}
 use Rattle.strand_events.specs.declared.event.Event.{Event}
-use Rattle.strand_events.specs.Trace.{is_persist, core_at, event_is, core_event_is, strand_number, persists_of}
+use Rattle.strand_events.specs.Trace.{is_persist, core_at, event_is, core_event_is, strand_number, persists_of, persist_number}
 use Rattle.strand_events.specs.Order.{set_of}
 use Rattle.strand_events.proofs.EventWithin.{event_within}
 use Rattle.strand_rules.specs.declared.turn.Cause.TheVariants as causes
@@ -36,7 +36,7 @@ use Rattle.strand_control.specs.declared.request.Request.{Request}
 use Rattle.strand_control.specs.declared.request.WriteTurn.TheVariants.{Written}
 use Rattle.strand_control.specs.Flight as flights
 use Rattle.strand_control.specs.Flight.{Flight, LieInBank, Writes}
-use Rattle.strand_machine.specs.Lists.{persist_number, entries, is_of_buffer, stage_of}
+use Rattle.strand_machine.specs.Lists.{entries, is_of_buffer, stage_of}
 use Rattle.strand_machine.specs.Changed.{durable_first, with_written}
 use Rattle.strand_machine.specs.Machine.{IsRingMachine, RingMachine, SlotIs}
 use Rattle.strand_machine.specs.Stand.{Stand, buffers_at, tally_at, prefixes, request_at, requests}

@@ -1,20 +1,15 @@
 -- Serves judge, check_path and longest of the crates above: both ends of an edge are events of the trace.
 use Rattle.std.proofs.Common.{◌≡◌, ℕ, ◌<◌, true, inl, inr, List, length}
-use Rattle.std.specs.Prelude.{◌&&◌, ◌||◌, not, ◌==◌, nat_lt}
+use Rattle.std.specs.Prelude.{◌&&◌, ◌||◌, not, nat_lt}
 use Rattle.std.proofs.lemmas.Bool.{and_parts, or_cases}
 use Rattle.strand_inputs.specs.declared.mode.Mode.{Mode}
 use Rattle.strand_inputs.specs.declared.mode.Mode.TheVariants.{Strict, Epoch, Strand}
 use Rattle.strand_events.specs.declared.event.Event.{Event}
-use Rattle.strand_events.specs.Trace.{event_is, is_access, is_store, is_barrier, is_join, core_at, word_at, core_event_is}
+use Rattle.strand_events.specs.Trace.{event_is, is_access, is_barrier, is_join, core_at, word_at, core_event_is}
 use Rattle.strand_events.proofs.EventWithin.{event_within}
+use Rattle.strand_events.proofs.PersistOrder.Epochs.{conflict_parts}
 use Rattle.strand_events.specs.Order.{conflicts, stands_between}
 use Rattle.strand_order.specs.Graph.{is_edge, word_edge, core_edge, gate_edge, join_edge, is_gate, since_gate, any_between, stores_word, access_or_join, drained_by}
-
-conflict_within : (t : List Event) (i j : ℕ) → conflicts t i j ≡ true → j < length t
-conflict_within t i j h =
-    let one = and_parts (event_is is_access t i && event_is is_access t j && (word_at t i == word_at t j)) (event_is is_store t i || event_is is_store t j) h in
-    let two = and_parts (event_is is_access t i && event_is is_access t j) (word_at t i == word_at t j) one.0 in
-    event_within is_access t j (and_parts (event_is is_access t i) (event_is is_access t j) two.0).1
 
 gate_within : (mode : Mode) (t : List Event) (i j : ℕ) → gate_edge mode t i j ≡ true → j < length t
 gate_within mode t i j h = elim (or_cases (((event_is is_access t j || event_is is_barrier t j) && is_gate mode t i j) || (event_is is_barrier t j && since_gate mode t i j)) (join_edge t i j) h) [
@@ -39,6 +34,6 @@ core_within Strand t i j h = gate_within Strand t i j h
 
 pub edge_within : (mode : Mode) (t : List Event) (i j : ℕ) → is_edge mode t i j ≡ true → j < length t
 edge_within mode t i j h = elim (or_cases (word_edge t i j) (core_edge mode t i j) (and_parts (nat_lt i j) (word_edge t i j || core_edge mode t i j) h).1) [
-  | inl word ↦ conflict_within t i j (and_parts (conflicts t i j) (not (any_between i j (stores_word t (word_at t j)))) word).0
+  | inl word ↦ event_within is_access t j (conflict_parts t i j (and_parts (conflicts t i j) (not (any_between i j (stores_word t (word_at t j)))) word).0).1
   | inr core ↦ core_within mode t i j core
 ]

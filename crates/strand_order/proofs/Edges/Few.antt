@@ -3,7 +3,7 @@
 -- one from its gate or last join, and at most one to its word's next store, to its strand's next gate and to its core's next join.
 use Rattle.std.proofs.Common.{◌≡◌, ℕ, zero, suc, ◌+◌, ◌*◌, ◌<◌, ◌≤◌, Bool, true, false, ◌||◌, ◌&&◌, ◌⊎◌, inl, inr, List, length, refl, sym, ap, ◌∙◌, arith}
 use Rattle.std.specs.Prelude.{not, ◌==◌, nat_lt}
-use Rattle.std.proofs.lemmas.Bool.{cases_Bool, cases_order, and_parts, and_from, or_cases, or_left, or_right, eqb-true, eq-eqb, ltb-true, lt-ltb, both_ways, not-true}
+use Rattle.std.proofs.lemmas.Bool.{cases_Bool, and_parts, and_from, or_cases, or_left, or_right, eqb-true, eq-eqb, ltb-true, lt-ltb, both_ways, not-true}
 use Rattle.std.proofs.lemmas.List.{length-append, length-map}
 use Rattle.strand_inputs.specs.declared.mode.Mode.{Mode}
 use Rattle.strand_inputs.specs.declared.mode.Mode.TheVariants.{Strict, Epoch, Strand}
@@ -13,7 +13,7 @@ use Rattle.strand_events.specs.declared.event.Event.{Event}
 use Rattle.strand_events.specs.Trace.{is_store, is_access, is_barrier, is_join, core_at, word_at, event_is, core_event_is, same_strand}
 use Rattle.strand_events.specs.Order.{conflicts, stands_between}
 use Rattle.strand_events.proofs.TraceInvariant.{count_most}
-use Rattle.strand_events.proofs.PersistOrder.Epochs.{strand_parts, strand_flip}
+use Rattle.strand_events.proofs.PersistOrder.Epochs.{strand_parts, strand_flip, conflict_parts}
 use Rattle.strand_order.specs.Graph.{any_between, stores_word, word_edge, access_or_join, program_edge, gates, is_gate, since_gate, drained_by, join_edge, gate_edge, core_edge, is_edge}
 use Rattle.strand_order.specs.Edges.{edge_from, edges_to, edges_below, edges_of}
 use Rattle.strand_order.proofs.Paths.Before.{between_pass}
@@ -122,31 +122,27 @@ last_of f i j = f j i && not (any_between i j (f j))
 next_of : (ℕ → ℕ → Bool) → ℕ → ℕ → Bool
 next_of f i j = f i j && not (any_between i j (f i))
 
+-- where none stands between, none that stands there passes
+none_passes : (i j k : ℕ) (f : ℕ → Bool) → not (any_between i j f) ≡ true → f k ≡ true → i < k → k < j → ⊥
+none_passes i j k f none is lo hi = both_ways (any_between i j f) (not-true (any_between i j f) none) (between_pass i j k f lo hi is)
+
 total_last_of : (n : ℕ) (f : ℕ → ℕ → Bool) → total (last_of f) n ≤ n
 unfolding last_of
 total_last_of n f = total_last n (last_of f) (λ i k j lt less a b.
     let x = and_parts (f j i) (not (any_between i j (f j))) a in
     let y = and_parts (f j k) (not (any_between k j (f j))) b in
-    elim (cases_order i k) [
-      | inl e ↦ e
-      | inr others ↦ elim others [
-        | inl before ↦ absurd (both_ways (any_between i j (f j)) (not-true (any_between i j (f j)) x.1) (between_pass i j k (f j) before less y.0))
-        | inr after ↦ absurd (both_ways (any_between k j (f j)) (not-true (any_between k j (f j)) y.1) (between_pass k j i (f j) after lt x.0))
-      ]
-    ])
+    let not_before : i < k → ⊥ = λ before. none_passes i j k (f j) x.1 y.0 before less in
+    let not_after : k < i → ⊥ = λ after. none_passes k j i (f j) y.1 x.0 after lt in
+    grind (arith, not_before, not_after))
 
 total_next_of : (n : ℕ) (f : ℕ → ℕ → Bool) → total (next_of f) n ≤ n
 unfolding next_of
 total_next_of n f = total_next n (next_of f) (λ i j k lt less a b.
     let x = and_parts (f i j) (not (any_between i j (f i))) a in
     let y = and_parts (f i k) (not (any_between i k (f i))) b in
-    elim (cases_order j k) [
-      | inl e ↦ e
-      | inr others ↦ elim others [
-        | inl before ↦ absurd (both_ways (any_between i k (f i)) (not-true (any_between i k (f i)) y.1) (between_pass i k j (f i) lt before x.0))
-        | inr after ↦ absurd (both_ways (any_between i j (f i)) (not-true (any_between i j (f i)) x.1) (between_pass i j k (f i) less after y.0))
-      ]
-    ])
+    let not_before : j < k → ⊥ = λ before. none_passes i k j (f i) y.1 x.0 lt before in
+    let not_after : k < j → ⊥ = λ after. none_passes i j k (f i) x.1 y.0 less after in
+    grind (arith, not_before, not_after))
 
 module _ (t : List Event) where
   -- event k is a store to event j's word
@@ -165,12 +161,10 @@ module _ (t : List Event) where
   unfolding last_of next_of
   word_cover i j h =
       let parts = and_parts (conflicts t i j) (not (any_between i j (stores_word t (word_at t j)))) h in
-      let one = and_parts (event_is is_access t i && event_is is_access t j && (word_at t i == word_at t j)) (event_is is_store t i || event_is is_store t j) parts.0 in
-      let two = and_parts (event_is is_access t i && event_is is_access t j) (word_at t i == word_at t j) one.0 in
-      let same : word_at t i ≡ word_at t j = eqb-true (word_at t i) (word_at t j) two.1 in
-      elim (or_cases (event_is is_store t i) (event_is is_store t j) one.1) [
-        | inl s ↦ inl (and_from (store_for j i) (not (any_between i j (store_for j))) (and_from (event_is is_store t i) (word_at t i == word_at t j) s two.1) parts.1)
-        | inr s ↦ inr (and_from (store_for i j) (not (any_between i j (store_for i))) (and_from (event_is is_store t j) (word_at t j == word_at t i) s (eq-eqb (word_at t j) (word_at t i) (sym same))) (ap (λ w. not (any_between i j (stores_word t w))) same ∙ parts.1))
+      let conflict = conflict_parts t i j parts.0 in
+      elim (or_cases (event_is is_store t i) (event_is is_store t j) conflict.3) [
+        | inl s ↦ inl (and_from (store_for j i) (not (any_between i j (store_for j))) (and_from (event_is is_store t i) (word_at t i == word_at t j) s (eq-eqb (word_at t i) (word_at t j) conflict.2)) parts.1)
+        | inr s ↦ inr (and_from (store_for i j) (not (any_between i j (store_for i))) (and_from (event_is is_store t j) (word_at t j == word_at t i) s (eq-eqb (word_at t j) (word_at t i) (sym conflict.2))) (ap (λ w. not (any_between i j (stores_word t w))) conflict.2 ∙ parts.1))
       ]
 
   program_cover : (i j : ℕ) → program_edge t i j ≡ true → last_of step_for i j ≡ true

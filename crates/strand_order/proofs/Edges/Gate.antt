@@ -1,49 +1,18 @@
 -- Serves clause edges of Graph::edges: the last events of a core tell the strand of its next event, and its gate.
-use Rattle.std.proofs.Common.{◌≡◌, ℕ, ◌+◌, ◌<◌, Bool, true, false, ◌||◌, ◌&&◌, inl, inr, List, refl, sym, ap, ◌∙◌, arith}
-use Rattle.std.specs.Prelude.{slice_get, Option, Some, None, nat_le, max, ◌==◌}
-use Rattle.std.proofs.lemmas.Bool.{cases_Bool, and_parts, and_from, or_cases, or_left, or_right, eq-eqb, eqb-true, false≢true, both_ways, false_from_ne_true}
+use Rattle.std.proofs.Common.{◌≡◌, ℕ, ◌+◌, ◌<◌, false, ◌||◌, ◌&&◌, inl, inr, List, refl, sym, ap, ◌∙◌, arith}
+use Rattle.std.specs.Prelude.{nat_le, max, ◌==◌}
+use Rattle.std.proofs.lemmas.Bool.{and_parts, and_from, or_cases, or_left, or_right, eq-eqb, eqb-true}
 use Rattle.strand_inputs.specs.declared.mode.Mode.{Mode}
 use Rattle.strand_inputs.specs.declared.mode.Mode.TheVariants.{Strict, Epoch, Strand}
 use Rattle.strand_base.specs.Counting.{count_below}
 use Rattle.strand_events.specs.declared.event.Event.{Event}
-use Rattle.strand_events.specs.declared.event.Event.TheVariants.{Load, Store, Barrier, NewStrand, Join, Out}
-use Rattle.strand_events.specs.Trace.{passes, is_access, is_barrier, is_join, is_new_strand, core_at, event_is, core_event_is, strand_number, same_strand}
-use Rattle.strand_events.proofs.PersistOrder.Epochs.{strand_parts, strand_from}
+use Rattle.strand_events.specs.Trace.{is_barrier, is_join, is_new_strand, core_at, event_is, core_event_is, strand_number, same_strand}
+use Rattle.strand_events.proofs.PersistOrder.Epochs.{excludes, barrier_begins_none, strand_parts, strand_from}
+use Rattle.strand_events.proofs.TestLaws.{same_from}
 use Rattle.strand_order.specs.Graph.{gates}
 use Rattle.strand_order.specs.Lasts.{since_below, from_floor}
 use Rattle.strand_order.specs.CoreLasts.{core_lasts, begin_in, gate_in}
 use Rattle.strand_order.proofs.Edges.LastEvent.{le_yes, since_agree, since_floor, since_either, same_count}
-
--- two tests that imply each other are the same
-pub alike : (x y : Bool) → (x ≡ true → y ≡ true) → (y ≡ true → x ≡ true) → x ≡ y
-alike x y to from = elim (cases_Bool x) [
-  | inl h ↦ h ∙ sym (to h)
-  | inr h ↦ h ∙ sym (false_from_ne_true y (λ g. both_ways x h (from g)))
-]
-
-barrier_no_begin : (e : Event) → is_barrier e ≡ true → is_new_strand e ≡ false
-barrier_no_begin (Barrier core) h = refl
-barrier_no_begin (NewStrand core) h = absurd (false≢true h)
-barrier_no_begin (Store persist core word value) h = absurd (false≢true h)
-barrier_no_begin (Load core word) h = absurd (false≢true h)
-barrier_no_begin (Join core) h = absurd (false≢true h)
-barrier_no_begin (Out core value) h = absurd (false≢true h)
-
-pub access_no_begin : (e : Event) → is_access e ≡ true → is_new_strand e ≡ false
-access_no_begin (Store persist core word value) h = refl
-access_no_begin (Load core word) h = refl
-access_no_begin (Barrier core) h = absurd (false≢true h)
-access_no_begin (NewStrand core) h = absurd (false≢true h)
-access_no_begin (Join core) h = absurd (false≢true h)
-access_no_begin (Out core value) h = absurd (false≢true h)
-
--- one test excludes another
-pub excludes : (test other : Event → Bool) → ((e : Event) → test e ≡ true → other e ≡ false) → (t : List Event) (i : ℕ) → event_is test t i ≡ true → event_is other t i ≡ false
-excludes test other no_ t i h = go (slice_get t i) h
-  where
-    go : (o : Option Event) → passes test o ≡ true → passes other o ≡ false
-    go None h = absurd (false≢true h)
-    go (Some e) h = no_ e h
 
 module _ (t : List Event) (j : ℕ) where
   -- an event of j's core that begins no strand is of j's strand exactly where none began after it
@@ -63,12 +32,12 @@ module _ (t : List Event) (j : ℕ) where
       let floor = begin_in mode (core_lasts t core j) in
       let joins = core_event_is is_join core t in
       let barriers = core_event_is is_barrier core t in
-      let same : (k : ℕ) → k < j → gates mode t j k ≡ (joins k || from_floor barriers floor k) = λ k lt. alike (gates mode t j k) (joins k || from_floor barriers floor k) (λ h. elim (or_cases (event_is is_barrier t k && same_strand mode t k j) (event_is is_join t k && (core_at t k == core_at t j)) h) [
+      let same : (k : ℕ) → k < j → gates mode t j k ≡ (joins k || from_floor barriers floor k) = λ k lt. same_from (gates mode t j k) (joins k || from_floor barriers floor k) (λ h. elim (or_cases (event_is is_barrier t k && same_strand mode t k j) (event_is is_join t k && (core_at t k == core_at t j)) h) [
         | inr join ↦ or_left (joins k) (from_floor barriers floor k) join
         | inl bar ↦
             let parts = and_parts (event_is is_barrier t k) (same_strand mode t k j) bar in
             let c = (strand_parts mode t k j parts.1).0 in
-            let near = sym (strand_by_begin mode k lt c (excludes is_barrier is_new_strand barrier_no_begin t k parts.0)) ∙ parts.1 in
+            let near = sym (strand_by_begin mode k lt c (excludes is_barrier is_new_strand barrier_begins_none t k parts.0)) ∙ parts.1 in
             or_right (joins k) (from_floor barriers floor k) (and_from (barriers k) (nat_le floor (k + 1)) (and_from (event_is is_barrier t k) (core_at t k == core) parts.0 (eq-eqb (core_at t k) core c)) near)
       ]) (λ h. elim (or_cases (joins k) (from_floor barriers floor k) h) [
         | inl join ↦ or_right (event_is is_barrier t k && same_strand mode t k j) (event_is is_join t k && (core_at t k == core_at t j)) join
@@ -76,7 +45,7 @@ module _ (t : List Event) (j : ℕ) where
             let parts = and_parts (barriers k) (nat_le floor (k + 1)) bar in
             let one = and_parts (event_is is_barrier t k) (core_at t k == core) parts.0 in
             let c = eqb-true (core_at t k) core one.1 in
-            let near = strand_by_begin mode k lt c (excludes is_barrier is_new_strand barrier_no_begin t k one.0) ∙ parts.1 in
+            let near = strand_by_begin mode k lt c (excludes is_barrier is_new_strand barrier_begins_none t k one.0) ∙ parts.1 in
             or_left (event_is is_barrier t k && same_strand mode t k j) (event_is is_join t k && (core_at t k == core_at t j)) (and_from (event_is is_barrier t k) (same_strand mode t k j) one.0 near)
       ]) in
       since_agree j (gates mode t j) (λ k. joins k || from_floor barriers floor k) same ∙ since_either j joins (from_floor barriers floor) ∙ ap (max (since_below j joins)) (since_floor j barriers floor)

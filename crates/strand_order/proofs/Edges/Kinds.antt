@@ -2,21 +2,22 @@
 -- The edges to a load, a store, a barrier and a join: from a chain of its word or core, and from one event more.
 use Rattle.std.proofs.Common.{◌≡◌, ℕ, suc, ◌+◌, ◌<◌, ◌≤◌, Bool, true, false, ◌||◌, ◌&&◌, inl, inr, List, refl, sym, ap, ◌∙◌, arith}
 use Rattle.std.specs.Prelude.{slice_get, Option, Some, None, nat_le, max, ◌==◌}
-use Rattle.std.proofs.lemmas.Bool.{and_parts, and_from, or_cases, or_left, or_right, eq-eqb, ne_eqb, eqb-true, false≢true, both_ways, false_from_ne_true}
+use Rattle.std.proofs.lemmas.Bool.{and_parts, and_from, or_cases, eq-eqb, ne_eqb, eqb-true, false≢true, both_ways, false_from_ne_true}
 use Rattle.strand_inputs.specs.declared.mode.Mode.{Mode}
 use Rattle.strand_inputs.specs.declared.mode.Mode.TheVariants.{Strict, Epoch, Strand}
 use Rattle.strand_events.specs.declared.event.Event.{Event}
-use Rattle.strand_events.specs.declared.event.Event.TheVariants.{Load, Store, Barrier, NewStrand, Join, Out}
 use Rattle.strand_events.specs.Trace.{passes, is_access, is_store, is_barrier, is_join, is_new_strand, core_at, word_at, event_is, core_event_is, same_strand}
-use Rattle.strand_events.proofs.PersistOrder.Epochs.{weaker, strand_parts}
-use Rattle.strand_order.proofs.Paths.Before.{store_is_access}
+use Rattle.strand_events.proofs.PersistOrder.Epochs.{weaker, excludes, store_is_access, access_begins_none, strand_parts}
+use Rattle.strand_events.proofs.TestLaws.{same_from}
+use Rattle.strand_order.proofs.Paths.Before.{access_drained}
+use Rattle.strand_order.proofs.Paths.Steps.{gate_no_access}
 use Rattle.strand_order.specs.Graph.{stores_word, access_or_join, gates, drained_by, is_edge}
 use Rattle.strand_order.specs.Lasts.{since_below, from_floor, cut, is_the_last, is_either}
 use Rattle.strand_order.proofs.Edges.FromLast.{is_last, word_seen, gate_seen, barrier_seen, join_seen, core_seen, edge_is_seen}
 use Rattle.strand_order.specs.CoreLasts.{core_lasts, begin_in, gate_in}
-use Rattle.strand_order.specs.Sources.{touches, single_in}
+use Rattle.strand_order.specs.Sources.{is_access_to, single_in}
 use Rattle.strand_order.proofs.Edges.LastEvent.{le_yes, le_true, since_passes, since_above, last_only}
-use Rattle.strand_order.proofs.Edges.Gate.{alike, gate_is, strand_by_begin, excludes, access_no_begin}
+use Rattle.strand_order.proofs.Edges.Gate.{gate_is, strand_by_begin}
 
 load_shape : (a w s l : Bool) → (s ≡ true → a ≡ true) → ((a && true && w && (s || false)) && l) ≡ ((s && w) && l)
 load_shape true true true l h = refl
@@ -52,7 +53,7 @@ module _ (t : List Event) (i j : ℕ) (lt : i < j) where
       let last = since_below j (stores_word t (word_at t j)) in
       rw (a, s) (load_shape (event_is is_access t i) (word_at t i == word_at t j) (event_is is_store t i) (nat_le last (i + 1)) (weaker is_store is_access store_is_access t i) ∙ last_only j i (stores_word t (word_at t j)) lt)
 
-  word_part_store : event_is is_access t j ≡ true → event_is is_store t j ≡ true → word_seen t i j ≡ from_floor (touches t (word_at t j)) (since_below j (stores_word t (word_at t j))) i
+  word_part_store : event_is is_access t j ≡ true → event_is is_store t j ≡ true → word_seen t i j ≡ from_floor (is_access_to t (word_at t j)) (since_below j (stores_word t (word_at t j))) i
   word_part_store a s =
       let last = since_below j (stores_word t (word_at t j)) in
       rw (a, s) (store_shape (event_is is_access t i) (word_at t i == word_at t j) (event_is is_store t i) (nat_le last (i + 1)))
@@ -95,13 +96,13 @@ module _ (t : List Event) (i j : ℕ) (lt : i < j) where
       let gate = gate_in mode m in
       let floor = suc (max begin gate) in
       let chain = core_event_is drained_by core t in
-      alike (event_is is_access t i && same_strand mode t i j && is_last (since_below j (gates mode t j)) i) (from_floor chain floor i) (λ h.
+      same_from (event_is is_access t i && same_strand mode t i j && is_last (since_below j (gates mode t j)) i) (from_floor chain floor i) (λ h.
       let parts = and_parts (event_is is_access t i && same_strand mode t i j) (is_last (since_below j (gates mode t j)) i) h in
       let one = and_parts (event_is is_access t i) (same_strand mode t i j) parts.0 in
       let c = (strand_parts mode t i j one.1).0 in
       let near = le_true (since_below j (gates mode t j)) (i + 1) parts.1 in
-      let opened = le_true begin (i + 1) (sym (strand_by_begin t j mode i lt c (excludes is_access is_new_strand access_no_begin t i one.0)) ∙ one.1) in
-      let not_gate : gate ≡ i + 1 → ⊥ = λ e. gate_access mode i (since_passes j (gates mode t j) i (gate_is t j mode ∙ e ∙ plus_one i)) one.0 in
+      let opened = le_true begin (i + 1) (sym (strand_by_begin t j mode i lt c (excludes is_access is_new_strand access_begins_none t i one.0)) ∙ one.1) in
+      let not_gate : gate ≡ i + 1 → ⊥ = λ e. gate_no_access mode t i j (since_passes j (gates mode t j) i (gate_is t j mode ∙ e ∙ plus_one i)) one.0 in
       let not_begin : begin ≡ i + 1 → ⊥ = λ e. begin_access mode one.0 e in
       let low : floor ≤ i + 1 = grind (arith, near, gate_is t j mode, opened, not_gate, not_begin) in
       and_from (chain i) (nat_le floor (i + 1)) (and_from (event_is drained_by t i) (core_at t i == core) (weaker is_access drained_by access_drained t i one.0) (eq-eqb (core_at t i) core c)) (le_yes floor (i + 1) low)) (λ h.
@@ -117,37 +118,18 @@ module _ (t : List Event) (i j : ℕ) (lt : i < j) where
       let kept : cut begin m.barrier ≡ m.barrier = rw (le_yes begin m.barrier (omega (arith, above, low))) refl in
       omega (arith, above, low, kept)) in
       let a : event_is is_access t i ≡ true = drained_access t i one.0 no_barrier no_join in
-      let same = strand_by_begin t j mode i lt c (excludes is_access is_new_strand access_no_begin t i a) ∙ le_yes begin (i + 1) (omega (arith, low)) in
+      let same = strand_by_begin t j mode i lt c (excludes is_access is_new_strand access_begins_none t i a) ∙ le_yes begin (i + 1) (omega (arith, low)) in
       and_from (event_is is_access t i && same_strand mode t i j) (is_last (since_below j (gates mode t j)) i) (and_from (event_is is_access t i) (same_strand mode t i j) a same) (le_yes (since_below j (gates mode t j)) (i + 1) (omega (arith, low, gate_is t j mode))))
     where
       plus_one : (n : ℕ) → n + 1 ≡ suc n
       plus_one n = omega arith
-
-      access_drained : (e : Event) → is_access e ≡ true → drained_by e ≡ true
-      access_drained e h = or_left (is_access e || is_barrier e) (is_join e) (or_left (is_access e) (is_barrier e) h)
-
-      access_alone : (e : Event) → is_access e ≡ true → (is_barrier e || is_join e) ≡ false
-      access_alone (Store persist core word value) h = refl
-      access_alone (Load core word) h = refl
-      access_alone (Barrier core) h = absurd (false≢true h)
-      access_alone (NewStrand core) h = absurd (false≢true h)
-      access_alone (Join core) h = absurd (false≢true h)
-      access_alone (Out core value) h = absurd (false≢true h)
-
-      gate_access : (mode : Mode) (i : ℕ) → gates mode t j i ≡ true → event_is is_access t i ≡ true → ⊥
-      gate_access mode i g a =
-          let none = excludes is_access (λ e. is_barrier e || is_join e) access_alone t i a in
-          elim (or_cases (event_is is_barrier t i && same_strand mode t i j) (event_is is_join t i && (core_at t i == core_at t j)) g) [
-            | inl b ↦ both_ways (event_is (λ e. is_barrier e || is_join e) t i) none (weaker is_barrier (λ e. is_barrier e || is_join e) (λ e h. or_left (is_barrier e) (is_join e) h) t i ((and_parts (event_is is_barrier t i) (same_strand mode t i j) b).0))
-            | inr k ↦ both_ways (event_is (λ e. is_barrier e || is_join e) t i) none (weaker is_join (λ e. is_barrier e || is_join e) (λ e h. or_right (is_barrier e) (is_join e) h) t i ((and_parts (event_is is_join t i) (core_at t i == core_at t j) k).0))
-          ]
 
       begin_access : (mode : Mode) → event_is is_access t i ≡ true → begin_in mode (core_lasts t (core_at t j) j) ≡ i + 1 → ⊥
       begin_access Strict a e = omega (arith, e)
       begin_access Epoch a e = omega (arith, e)
       begin_access Strand a e =
           let passes_ = since_passes j (core_event_is is_new_strand (core_at t j) t) i (e ∙ plus_one i) in
-          both_ways (event_is is_new_strand t i) (excludes is_access is_new_strand access_no_begin t i a) ((and_parts (event_is is_new_strand t i) (core_at t i == core_at t j) passes_).0)
+          both_ways (event_is is_new_strand t i) (excludes is_access is_new_strand access_begins_none t i a) ((and_parts (event_is is_new_strand t i) (core_at t i == core_at t j) passes_).0)
 
       drained_access : (t : List Event) (i : ℕ) → event_is drained_by t i ≡ true → event_is is_barrier t i ≡ false → event_is is_join t i ≡ false → event_is is_access t i ≡ true
       drained_access t i d b k = go (slice_get t i) d b k
@@ -181,8 +163,8 @@ module _ (t : List Event) (i j : ℕ) (lt : i < j) where
   edge_to_load mode x a s b k = seen mode ∙ ap (λ y. y || core_seen mode t i j) (word_part_load a s) ∙ ap (λ y. is_the_last (since_below j (stores_word t (word_at t j))) i || y) (single mode x a b k)
 
   pub edge_to_store : (mode : Mode) → event_is access_or_join t j ≡ true → event_is is_access t j ≡ true → event_is is_store t j ≡ true → event_is is_barrier t j ≡ false → event_is is_join t j ≡ false
-      → is_edge mode t i j ≡ is_either (from_floor (touches t (word_at t j)) (since_below j (stores_word t (word_at t j)))) (single_in mode (core_lasts t (core_at t j) j)) i
-  edge_to_store mode x a s b k = seen mode ∙ ap (λ y. y || core_seen mode t i j) (word_part_store a s) ∙ ap (λ y. from_floor (touches t (word_at t j)) (since_below j (stores_word t (word_at t j))) i || y) (single mode x a b k)
+      → is_edge mode t i j ≡ is_either (from_floor (is_access_to t (word_at t j)) (since_below j (stores_word t (word_at t j)))) (single_in mode (core_lasts t (core_at t j) j)) i
+  edge_to_store mode x a s b k = seen mode ∙ ap (λ y. y || core_seen mode t i j) (word_part_store a s) ∙ ap (λ y. from_floor (is_access_to t (word_at t j)) (since_below j (stores_word t (word_at t j))) i || y) (single mode x a b k)
 
   no_word : (mode : Mode) → event_is is_access t j ≡ false → is_edge mode t i j ≡ core_seen mode t i j
   no_word mode a = seen mode ∙ ap (λ y. y || core_seen mode t i j) (word_part_none a)

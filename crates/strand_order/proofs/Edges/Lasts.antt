@@ -9,13 +9,14 @@ use Rattle.std.proofs.lemmas.List.{get_or-set_other, get_or-set_same, length-set
 use Rattle.strand_base.specs.declared.limits.TheConstants.{CORE_ROOM}
 use Rattle.strand_events.specs.declared.event.Event.{Event}
 use Rattle.strand_events.specs.Trace.{core_of, word_of, core_in, word_in, passes, is_access, is_store, is_barrier, is_join, is_new_strand, core_at, word_at, event_is, core_event_is}
-use Rattle.strand_order.proofs.Paths.Before.{store_is_access}
+use Rattle.strand_events.proofs.PersistOrder.Epochs.{store_is_access}
+use Rattle.strand_events.proofs.TestLaws.{and_true}
 use Rattle.strand_order.specs.Graph.{stores_word, access_or_join, drained_by}
 use Rattle.strand_order.specs.Lasts.{since_below}
 use Rattle.strand_order.specs.declared.lasts.CoreLasts.{CoreLasts}
 use Rattle.strand_order.specs.declared.lasts.WordLasts.{WordLasts}
 use Rattle.strand_order.specs.CoreLasts.{core_lasts, lasts_after, no_lasts, AreCoreLasts}
-use Rattle.strand_order.specs.Sources.{touches, word_lasts, AreWordLinks, AreCoreLinks}
+use Rattle.strand_order.specs.Sources.{is_access_to, word_lasts, AreWordLinks, AreCoreLinks}
 use Rattle.strand_order.specs.Walks.{AreBack}
 use Rattle.strand_order.specs.declared.seen.Seen.{Seen}
 use Rattle.strand_order.specs.Seen.{word_lasts_after, lasts_in, IsSeen}
@@ -32,10 +33,6 @@ back_more xs x back le i = elim (cases_lt i (length xs)) [
     | inr ne ↦ omega (arith, get_or_past (xs ++ x ∷ []) i 0 (grind (arith, length_push xs x, past, ne)))
   ]
 ]
-
-and_true : (x : Bool) → (x && true) ≡ x
-and_true true = refl
-and_true false = refl
 
 abbrev lasts_from : ℕ → ℕ → ℕ → ℕ → ℕ → CoreLasts
 lasts_from a b c d f = record { step = a; drained = b; barrier = c; begin = d; join = f }
@@ -88,20 +85,27 @@ module _ (t : List Event) (n : ℕ) (e : Event) (at : slice_get t n ≡ Some e) 
       )
 
   pub word_noted : (word : ℕ) → word_lasts t word (suc n) ≡ word_lasts_after e n word (word_lasts t word n)
-  word_noted word = rw at (word_shape (is_access e) (is_store e) (word_of e == word) (store_is_access e) n (since_below n (touches t word)) (since_below n (stores_word t word)))
+  word_noted word = rw at (word_shape (is_access e) (is_store e) (word_of e == word) (store_is_access e) n (since_below n (is_access_to t word)) (since_below n (stores_word t word)))
+
+  -- the links of the events below n, and that of event n
+  link_more : (test : Event → Bool) (chain : ℕ → ℕ → Bool) (links : List ℕ) (x : ℕ) → length links ≡ n
+      → ((i : ℕ) → i < n → event_is test t i ≡ true → slice_index links i ≡ since_below i (chain i))
+      → x ≡ cond (test e) (since_below n (chain n)) 0
+      → (i : ℕ) → i < suc n → event_is test t i ≡ true → slice_index (links ++ x ∷ []) i ≡ since_below i (chain i)
+  link_more test chain links x long back made i lt is = elim (cases_eq i n) [
+    | inl same ↦
+        let on : test e ≡ true = sym (ap (passes test) at) ∙ ap (event_is test t) (sym same) ∙ is in
+        let there : slice_index (links ++ x ∷ []) i ≡ x = ap (slice_index (links ++ x ∷ [])) (same ∙ sym long) ∙ get_or_push links x 0 (length links) refl in
+        there ∙ made ∙ ap (λ b. cond b (since_below n (chain n)) 0) on ∙ ap (λ k. since_below k (chain k)) (sym same)
+    | inr ne ↦ let below : i < n = grind (arith, lt, ne) in get_or_append_left links (x ∷ []) 0 i (omega (arith, below, long)) ∙ back i below is
+  ]
 
   pub word_linked : (links : List ℕ) → AreWordLinks t n links → AreWordLinks t (suc n) (links ++ cond (is_access e) (word_lasts t (word_of e) n).access 0 ∷ [])
   word_linked links a =
-      let x = cond (is_access e) (since_below n (touches t (word_of e))) 0 in
+      let x = cond (is_access e) (since_below n (is_access_to t (word_of e))) 0 in
       record {
         long = omega (arith, length_push links x, a.long);
-        back = λ i lt is. elim (cases_eq i n) [
-          | inl same ↦
-              let on : is_access e ≡ true = sym (ap (passes is_access) at) ∙ ap (event_is is_access t) (sym same) ∙ is in
-              let there : slice_index (links ++ x ∷ []) i ≡ x = ap (slice_index (links ++ x ∷ [])) (same ∙ sym a.long) ∙ get_or_push links x 0 (length links) refl in
-              there ∙ ap (λ b. cond b (since_below n (touches t (word_of e))) 0) on ∙ ap (λ w. since_below n (touches t w)) (sym word_is) ∙ ap (λ k. since_below k (touches t (word_at t k))) (sym same)
-          | inr ne ↦ let below : i < n = grind (arith, lt, ne) in get_or_append_left links (x ∷ []) 0 i (omega (arith, below, a.long)) ∙ a.back i below is
-        ];
+        back = link_more is_access (λ i. is_access_to t (word_at t i)) links x a.long a.back (ap (λ w. cond (is_access e) (since_below n (is_access_to t w)) 0) (sym word_is));
       }
 
   pub core_linked : (links : List ℕ) → AreCoreLinks t n links → AreCoreLinks t (suc n) (links ++ cond (drained_by e) (core_lasts t (core_of e) n).drained 0 ∷ [])
@@ -109,13 +113,7 @@ module _ (t : List Event) (n : ℕ) (e : Event) (at : slice_get t n ≡ Some e) 
       let x = cond (drained_by e) (since_below n (core_event_is drained_by (core_of e) t)) 0 in
       record {
         long = omega (arith, length_push links x, a.long);
-        back = λ i lt is. elim (cases_eq i n) [
-          | inl same ↦
-              let on : drained_by e ≡ true = sym (ap (passes drained_by) at) ∙ ap (event_is drained_by t) (sym same) ∙ is in
-              let there : slice_index (links ++ x ∷ []) i ≡ x = ap (slice_index (links ++ x ∷ [])) (same ∙ sym a.long) ∙ get_or_push links x 0 (length links) refl in
-              there ∙ ap (λ b. cond b (since_below n (core_event_is drained_by (core_of e) t)) 0) on ∙ ap (λ c. since_below n (core_event_is drained_by c t)) (sym core_is) ∙ ap (λ k. since_below k (core_event_is drained_by (core_at t k) t)) (sym same)
-          | inr ne ↦ let below : i < n = grind (arith, lt, ne) in get_or_append_left links (x ∷ []) 0 i (omega (arith, below, a.long)) ∙ a.back i below is
-        ];
+        back = link_more drained_by (λ i. core_event_is drained_by (core_at t i) t) links x a.long a.back (ap (λ c. cond (drained_by e) (since_below n (core_event_is drained_by c t)) 0) (sym core_is));
       }
 
 pub link_most : (b : Bool) (n : ℕ) (f : ℕ → Bool) → cond b (since_below n f) 0 ≤ n
@@ -130,16 +128,16 @@ pub noted : (t : List Event) (n : ℕ) (e : Event) → slice_get t n ≡ Some e 
     → new.core_links.items ≡ s.core_links.items ++ cond (drained_by e) (slice_index_or s.cores (core_of e) no_lasts).drained 0 ∷ []
     → IsSeen t (suc n) new
 noted t n e at lt s new k cores words word_links core_links =
-    let word_access : (lasts_in (get nat_cmp s.words (word_of e))).access ≡ since_below n (touches t (word_of e)) = ap (λ (w : WordLasts). w.access) (k.words (word_of e)) in
+    let word_access : (lasts_in (get nat_cmp s.words (word_of e))).access ≡ since_below n (is_access_to t (word_of e)) = ap (λ (w : WordLasts). w.access) (k.words (word_of e)) in
     let core_drained : (slice_index_or s.cores (core_of e) no_lasts).drained ≡ since_below n (core_event_is drained_by (core_of e) t) = ap (λ (m : CoreLasts). m.drained) ((k.cores).1 (core_of e) lt) in
-    let one : new.word_links.items ≡ s.word_links.items ++ cond (is_access e) (since_below n (touches t (word_of e))) 0 ∷ [] = word_links ∙ ap (λ x. s.word_links.items ++ cond (is_access e) x 0 ∷ []) word_access in
+    let one : new.word_links.items ≡ s.word_links.items ++ cond (is_access e) (since_below n (is_access_to t (word_of e))) 0 ∷ [] = word_links ∙ ap (λ x. s.word_links.items ++ cond (is_access e) x 0 ∷ []) word_access in
     let two : new.core_links.items ≡ s.core_links.items ++ cond (drained_by e) (since_below n (core_event_is drained_by (core_of e) t)) 0 ∷ [] = core_links ∙ ap (λ x. s.core_links.items ++ cond (drained_by e) x 0 ∷ []) core_drained in
     record {
       cores = subst (AreCoreLasts t (suc n)) (sym cores) (cores_noted t n e at s.cores lt k.cores);
       words = λ word. words word ∙ ap (word_lasts_after e n word) (k.words word) ∙ sym (word_noted t n e at word);
       word_links = subst (AreWordLinks t (suc n)) (sym one) (word_linked t n e at s.word_links.items k.word_links);
       core_links = subst (AreCoreLinks t (suc n)) (sym two) (core_linked t n e at s.core_links.items k.core_links);
-      word_back = subst AreBack (sym one) (back_more s.word_links.items (cond (is_access e) (since_below n (touches t (word_of e))) 0) k.word_back (omega (arith, link_most (is_access e) n (touches t (word_of e)), k.word_links.long)));
+      word_back = subst AreBack (sym one) (back_more s.word_links.items (cond (is_access e) (since_below n (is_access_to t (word_of e))) 0) k.word_back (omega (arith, link_most (is_access e) n (is_access_to t (word_of e)), k.word_links.long)));
       core_back = subst AreBack (sym two) (back_more s.core_links.items (cond (drained_by e) (since_below n (core_event_is drained_by (core_of e) t)) 0) k.core_back (omega (arith, link_most (drained_by e) n (core_event_is drained_by (core_of e) t), k.core_links.long)));
     }
 

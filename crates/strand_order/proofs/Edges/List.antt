@@ -1,8 +1,8 @@
 -- Serves edges_are_listed: what stands in the list of the edges, and in which order.
 use Rattle.std.proofs.Common.{◌≡◌, ℕ, zero, suc, ◌+◌, ◌-◌, ◌<◌, ◌≤◌, inl, inr, true, ◌⊎◌, List, [], ◌∷◌, ◌++◌, length, Some, None, Option, refl, sym, ap, ◌∙◌, arith}
-use Rattle.std.specs.Prelude.{slice_get, Bool, ◌||◌, nat_lt}
+use Rattle.std.specs.Prelude.{slice_get, Bool}
 use Rattle.std.specs.Option.{option_map}
-use Rattle.std.proofs.lemmas.Bool.{cases_eq, cases_lt, cases_Bool, and_parts, ltb-true}
+use Rattle.std.proofs.lemmas.Bool.{cases_eq, cases_lt, cases_Bool}
 use Rattle.std.proofs.lemmas.Option.{slice_get_within, slice_get-map, slice_get-get_or}
 use Rattle.strand_inputs.specs.declared.mode.Mode.{Mode}
 use Rattle.strand_base.specs.Counting.{count_below, list_below}
@@ -10,8 +10,8 @@ use Rattle.strand_base.proofs.BelowBound.{count_mono, list_get, get_last, get_mo
 use Rattle.strand_events.specs.declared.event.Event.{Event}
 use Rattle.strand_order.specs.declared.edge.Edge.{Edge}
 use Rattle.std.proofs.Math.ListN.{get_or}
-use Rattle.strand_order.proofs.Paths.Path.{edge_less}
-use Rattle.strand_order.specs.Graph.{is_edge, word_edge, core_edge}
+use Rattle.strand_order.proofs.Paths.Steps.{edge_less}
+use Rattle.strand_order.specs.Graph.{is_edge}
 use Rattle.strand_order.specs.Edges.{edge_from, edges_to, edges_below, edges_of, StandsBefore}
 
 none_some : {X : Type 0} (x : X) → None ≡ Some x → ⊥
@@ -92,7 +92,7 @@ module _ (mode : Mode) (t : List Event) where
   edge_listed zero i j lt h = absurd (omega arith)
   edge_listed (suc n) i j lt h = elim (cases_eq j n) [
     | inl e ↦
-        let before : i < n = omega (arith, e, edge_forward i j h) in
+        let before : i < n = omega (arith, e, edge_less mode t i j h) in
         let found = list_has n (λ i. is_edge mode t i n) i before (ap (is_edge mode t i) (sym e) ∙ h) in (
           length (edges_below mode t n) + found.0,
           get_back (edges_below mode t n) (edges_to mode t n n) found.0 ∙ slice_get-map (edge_from n) (list_below n (λ i. is_edge mode t i n)) found.0 ∙ ap (option_map (edge_from n)) found.1 ∙ ap (λ k. Some (edge_from k i)) (sym e),
@@ -101,25 +101,8 @@ module _ (mode : Mode) (t : List Event) where
         let found = edge_listed n i j (at_or_below lt ne) h in
         (found.0, get_front (edges_below mode t n) (edges_to mode t n n) found.0 (slice_get_within (edges_below mode t n) found.0 (edge_from j i) found.1) ∙ found.1)
   ]
-    where
-      edge_forward : (i j : ℕ) → is_edge mode t i j ≡ true → i < j
-      edge_forward i j e = ltb-true i j ((and_parts (nat_lt i j) (word_edge t i j || core_edge mode t i j) e).0)
 
-  -- a later element leads to no earlier event
-  pub listed_in_order : (n m k : ℕ) (e f : Edge) → m ≤ k → slice_get (edges_below mode t n) m ≡ Some e → slice_get (edges_below mode t n) k ≡ Some f → e.after ≤ f.after
-  listed_in_order zero m k e f le at at' = absurd (none_listed m e at)
-  listed_in_order (suc n) m k e f le at at' = elim (split_at n k f at') [
-    | inl (lt', early') ↦ elim (split_at n m e at) [
-      | inl (lt, early) ↦ listed_in_order n m k e f le early early'
-      | inr (far, here) ↦ absurd (omega arith)
-    ]
-    | inr (far', here') ↦ elim (split_at n m e at) [
-      | inl (lt, early) ↦ omega (arith, (listed_edge n m e early).1, here'.to)
-      | inr (far, here) ↦ omega (arith, here.to, here'.to)
-    ]
-  ]
-
-  -- and a later element is another one: it leads to a later event, or to the same from a later one
+  -- a later element is another one: it leads to a later event, or to the same from a later one
   pub listed_rising : (n m k : ℕ) (e f : Edge) → m < k → slice_get (edges_below mode t n) m ≡ Some e → slice_get (edges_below mode t n) k ≡ Some f → StandsBefore e f
   listed_rising zero m k e f less at at' = absurd (none_listed m e at)
   listed_rising (suc n) m k e f less at at' = elim (split_at n k f at') [
@@ -137,6 +120,13 @@ module _ (mode : Mode) (t : List Event) where
         ],
       )
     ]
+  ]
+
+  -- so it leads to no earlier event
+  pub listed_in_order : (n m k : ℕ) (e f : Edge) → m ≤ k → slice_get (edges_below mode t n) m ≡ Some e → slice_get (edges_below mode t n) k ≡ Some f → e.after ≤ f.after
+  listed_in_order n m k e f le at at' = elim (cases_eq m k) [
+    | inl same ↦ let one : e ≡ f = cc in omega (arith, ap (λ (x : Edge). x.after) one)
+    | inr ne ↦ elim (listed_rising n m k e f (grind (arith, le, ne)) at at') [ inl later ↦ omega (arith, later) | inr (even, rising) ↦ omega (arith, even) ]
   ]
 
   -- the edge at a place of the list, and its ends

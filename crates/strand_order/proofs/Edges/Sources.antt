@@ -21,7 +21,7 @@ use Rattle.strand_order.specs.Lasts.{since_below, from_floor, cut, is_the_last, 
 use Rattle.strand_order.specs.declared.lasts.CoreLasts.{CoreLasts}
 use Rattle.strand_order.specs.declared.lasts.Sources.{Sources}
 use Rattle.strand_order.specs.CoreLasts.{core_lasts, no_lasts, begin_in, gate_in}
-use Rattle.strand_order.specs.Sources.{touches, word_lasts, AreWordLinks, AreCoreLinks, single_in, sources_of}
+use Rattle.strand_order.specs.Sources.{is_access_to, word_lasts, AreWordLinks, AreCoreLinks, single_in, sources_of}
 use Rattle.strand_order.specs.Walks.{AreSources, IsWalked}
 use Rattle.strand_order.proofs.Edges.LastEvent.{le_yes, le_no, since_most, since_the_last, since_floor}
 use Rattle.strand_order.proofs.Edges.Walk.{cut_most, nothing_before}
@@ -68,10 +68,10 @@ module _ (t : List Event) (j : ℕ) where
     single = le;
   }
 
-  word_back : (links : List ℕ) → AreWordLinks t j links → (i : ℕ) → i < j → touches t (word_at t j) i ≡ true → slice_index links i ≡ since_below i (touches t (word_at t j))
+  word_back : (links : List ℕ) → AreWordLinks t j links → (i : ℕ) → i < j → is_access_to t (word_at t j) i ≡ true → slice_index links i ≡ since_below i (is_access_to t (word_at t j))
   word_back links a i lt h =
       let parts = and_parts (event_is is_access t i) (word_at t i == word_at t j) h in
-      a.back i lt parts.0 ∙ ap (λ w. since_below i (touches t w)) (eqb-true (word_at t i) (word_at t j) parts.1)
+      a.back i lt parts.0 ∙ ap (λ w. since_below i (is_access_to t w)) (eqb-true (word_at t i) (word_at t j) parts.1)
 
   core_back : (links : List ℕ) → AreCoreLinks t j links → (i : ℕ) → i < j → core_event_is drained_by (core_at t j) t i ≡ true → slice_index links i ≡ since_below i (core_event_is drained_by (core_at t j) t)
   core_back links a i lt h =
@@ -90,8 +90,8 @@ module _ (t : List Event) (j : ℕ) where
   found_word mode (Store persist core word value) links at is back a =
       let last = since_below j (stores_word t (word_at t j)) in
       record {
-        chain = from_floor (touches t (word_at t j)) last;
-        sources = floor_chain links (touches t (word_at t j)) last (single_in mode (core_lasts t (core_at t j) j)) (word_back links a) (single_most mode);
+        chain = from_floor (is_access_to t (word_at t j)) last;
+        sources = floor_chain links (is_access_to t (word_at t j)) last (single_in mode (core_lasts t (core_at t j) j)) (word_back links a) (single_most mode);
         edges = λ i lt. edge_to_store t i j lt mode (ap (passes access_or_join) at) (ap (passes is_access) at) (ap (passes is_store) at) (ap (passes is_barrier) at) (ap (passes is_join) at);
       }
   found_word mode (Barrier core) links at is back a = absurd (both_ways (is_access (Barrier core)) refl is)
@@ -99,24 +99,24 @@ module _ (t : List Event) (j : ℕ) where
   found_word mode (Join core) links at is back a = absurd (both_ways (is_access (Join core)) refl is)
   found_word mode (Out core value) links at is back a = absurd (both_ways (is_access (Out core value)) refl is)
 
+  -- the chain of what a barrier or a join drains
+  found_drained : (mode : Mode) (links : List ℕ) (floor single : ℕ) → AreCoreLinks t j links → single ≤ j
+      → ((i : ℕ) → i < j → is_edge mode t i j ≡ is_either (from_floor (core_event_is drained_by (core_at t j) t) floor) single i)
+      → Found mode t j links (record { last = (core_lasts t (core_at t j) j).drained; floor = floor; single = single })
+  found_drained mode links floor single a le edges = record {
+    chain = from_floor (core_event_is drained_by (core_at t j) t) floor;
+    sources = floor_chain links (core_event_is drained_by (core_at t j) t) floor single (core_back links a) le;
+    edges = edges;
+  }
+
   found_barrier : (mode : Mode) (core : ℕ) (links : List ℕ) → slice_get t j ≡ Some (Barrier core) → AreCoreLinks t j links → Found mode t j links (sources_of mode (Barrier core) (core_lasts t (core_at t j) j) (word_lasts t (word_at t j) j))
   found_barrier Strict core links at a = record { chain = is_the_last 0; sources = no_chain links 0 (omega arith); edges = λ i lt. edge_to_barrier_strict t i j lt (ap (passes access_or_join) at) (ap (passes is_access) at) }
   found_barrier Epoch core links at a =
       let m = core_lasts t (core_at t j) j in
-      let floor = suc (max (begin_in Epoch m) (gate_in Epoch m)) in
-      record {
-        chain = from_floor (core_event_is drained_by (core_at t j) t) floor;
-        sources = floor_chain links (core_event_is drained_by (core_at t j) t) floor (gate_in Epoch m) (core_back links a) (gate_most Epoch);
-        edges = λ i lt. edge_to_barrier t i j lt Epoch (by_gates_epoch t i j lt) (ap (passes is_access) at) (ap (passes is_barrier) at) (ap (passes is_join) at);
-      }
+      found_drained Epoch links (suc (max (begin_in Epoch m) (gate_in Epoch m))) (gate_in Epoch m) a (gate_most Epoch) (λ i lt. edge_to_barrier t i j lt Epoch (by_gates_epoch t i j lt) (ap (passes is_access) at) (ap (passes is_barrier) at) (ap (passes is_join) at))
   found_barrier Strand core links at a =
       let m = core_lasts t (core_at t j) j in
-      let floor = suc (max (begin_in Strand m) (gate_in Strand m)) in
-      record {
-        chain = from_floor (core_event_is drained_by (core_at t j) t) floor;
-        sources = floor_chain links (core_event_is drained_by (core_at t j) t) floor (gate_in Strand m) (core_back links a) (gate_most Strand);
-        edges = λ i lt. edge_to_barrier t i j lt Strand (by_gates_strand t i j lt) (ap (passes is_access) at) (ap (passes is_barrier) at) (ap (passes is_join) at);
-      }
+      found_drained Strand links (suc (max (begin_in Strand m) (gate_in Strand m))) (gate_in Strand m) a (gate_most Strand) (λ i lt. edge_to_barrier t i j lt Strand (by_gates_strand t i j lt) (ap (passes is_access) at) (ap (passes is_barrier) at) (ap (passes is_join) at))
 
   found_join : (mode : Mode) (core : ℕ) (links : List ℕ) → slice_get t j ≡ Some (Join core) → AreCoreLinks t j links → Found mode t j links (sources_of mode (Join core) (core_lasts t (core_at t j) j) (word_lasts t (word_at t j) j))
   found_join Strict core links at a = record {
@@ -124,16 +124,8 @@ module _ (t : List Event) (j : ℕ) where
     sources = no_chain links (core_lasts t (core_at t j) j).step (single_most Strict);
     edges = λ i lt. edge_to_join_strict t i j lt (ap (passes access_or_join) at) (ap (passes is_access) at);
   }
-  found_join Epoch core links at a = record {
-    chain = from_floor (core_event_is drained_by (core_at t j) t) (core_lasts t (core_at t j) j).join;
-    sources = floor_chain links (core_event_is drained_by (core_at t j) t) (core_lasts t (core_at t j) j).join 0 (core_back links a) (omega arith);
-    edges = λ i lt. edge_to_join t i j lt Epoch (by_gates_epoch t i j lt) (ap (passes is_access) at) (ap (passes is_barrier) at) (ap (passes is_join) at);
-  }
-  found_join Strand core links at a = record {
-    chain = from_floor (core_event_is drained_by (core_at t j) t) (core_lasts t (core_at t j) j).join;
-    sources = floor_chain links (core_event_is drained_by (core_at t j) t) (core_lasts t (core_at t j) j).join 0 (core_back links a) (omega arith);
-    edges = λ i lt. edge_to_join t i j lt Strand (by_gates_strand t i j lt) (ap (passes is_access) at) (ap (passes is_barrier) at) (ap (passes is_join) at);
-  }
+  found_join Epoch core links at a = found_drained Epoch links (core_lasts t (core_at t j) j).join 0 a (omega arith) (λ i lt. edge_to_join t i j lt Epoch (by_gates_epoch t i j lt) (ap (passes is_access) at) (ap (passes is_barrier) at) (ap (passes is_join) at))
+  found_join Strand core links at a = found_drained Strand links (core_lasts t (core_at t j) j).join 0 a (omega arith) (λ i lt. edge_to_join t i j lt Strand (by_gates_strand t i j lt) (ap (passes is_access) at) (ap (passes is_barrier) at) (ap (passes is_join) at))
 
   pub found_core : (mode : Mode) (e : Event) (links : List ℕ) → slice_get t j ≡ Some e → is_access e ≡ false → AreCoreLinks t j links → Found mode t j links (sources_of mode e (core_lasts t (core_at t j) j) (word_lasts t (word_at t j) j))
   found_core mode (Load core word) links at none a = absurd (both_ways (is_access (Load core word)) none refl)
@@ -182,7 +174,7 @@ module _ (t : List Event) (n : ℕ) (e : Event) (at : slice_get t n ≡ Some e) 
 
       go : (mode : Mode) (e : Event) → (sources_of mode e (core_lasts t (core_at t n) n) (word_lasts t (word_at t n) n)).last ≤ n
       go mode (Load core word) = since_most n (stores_word t (word_at t n))
-      go mode (Store persist core word value) = since_most n (touches t (word_at t n))
+      go mode (Store persist core word value) = since_most n (is_access_to t (word_at t n))
       go mode (NewStrand core) = omega arith
       go mode (Out core value) = omega arith
       go Strict (Barrier core) = omega arith

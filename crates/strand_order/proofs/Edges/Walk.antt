@@ -1,12 +1,10 @@
 -- Serves clause edges of Graph::edges, the third step of build, by walk.
 -- The links are followed back over the chain and the one event more, and the list has the edges.
-use Rattle.std.proofs.Common.{◌≡◌, ℕ, zero, suc, ◌+◌, ◌-◌, ◌<◌, ◌≤◌, Bool, true, inl, inr, List, [], ◌∷◌, ◌++◌, length, map, take, refl, sym, ap, ◌∙◌, arith, cond, append_assoc}
+use Rattle.std.proofs.Common.{◌≡◌, ℕ, zero, suc, ◌-◌, ◌<◌, ◌≤◌, Bool, true, inl, inr, List, [], ◌∷◌, ◌++◌, length, refl, sym, ap, ◌∙◌, arith, cond, append_assoc}
 use Rattle.std.specs.Prelude.{reverse, max, nat_le, ◌==◌, slice_index}
 use Rattle.std.proofs.lemmas.Bool.{cases_eq, cases_Bool, eq-eqb, ne_eqb, eqb-true}
-use Rattle.std.proofs.lemmas.List.{reverse-append, append-nil, take_more}
+use Rattle.std.proofs.lemmas.List.{reverse-append, append-nil}
 use Rattle.strand_base.specs.Counting.{list_below}
-use Rattle.strand_order.specs.declared.edge.Edge.{Edge}
-use Rattle.strand_order.specs.Edges.{edge_from}
 use Rattle.strand_order.specs.Lasts.{since_below, cut, is_the_last, is_either}
 use Rattle.strand_order.specs.declared.lasts.Sources.{Sources}
 use Rattle.strand_order.specs.Walks.{AreSources}
@@ -79,14 +77,6 @@ module _ (links : List ℕ) (s : Sources) (n : ℕ) (chain : ℕ → Bool) (a : 
       let none : since_below w.bound both ≡ 0 = since_either w.bound chain (is_the_last s.single) ∙ (omega (arith, w.last_is, w.single_is, l, k)) in
       w.rest ∙ ap (λ xs. xs ++ reverse list) (list_none w.bound both none)
 
--- one edge more from the end of a list
-pub put_more : (edges done : List Edge) (list : List ℕ) (j k : ℕ) → k < length list → edges ++ map (edge_from j) (reverse (take (k + 1) list)) ≡ done
-    → (edges ++ edge_from j (slice_index list k) ∷ []) ++ map (edge_from j) (reverse (take k list)) ≡ done
-put_more edges done list j k lt e =
-    let x = slice_index list k in
-    let split : reverse (take (k + 1) list) ≡ x ∷ reverse (take k list) = ap reverse (take_more list k 0 lt) ∙ reverse-append (take k list) (x ∷ []) in
-    append_assoc edges (edge_from j x ∷ []) (map (edge_from j) (reverse (take k list))) ∙ ap (λ xs. edges ++ map (edge_from j) xs) (sym split) ∙ e
-
 pub cut_most : (floor last : ℕ) → cut floor last ≤ last
 cut_most floor last = elim (cases_Bool (nat_le floor last)) [ inl y ↦ rw y (omega arith) | inr no_ ↦ rw no_ (omega arith) ]
 
@@ -99,15 +89,5 @@ last_within links floor last next last' back le one made = elim (cases_eq last n
       (omega (arith, low), λ _. low)
   | inr ne ↦
       let is : last' ≡ last = made ∙ ap (λ b. cond b (cut floor (slice_index links (next - 1))) last) (ne_eqb last next ne) in
-      (omega (arith, is), λ e. absurd (ne e))
-]
-
-pub single_within : (single next single' : ℕ) → 1 ≤ next → single' ≡ cond (single == next) 0 single → (single' ≤ single) × ((single ≡ next) → single' < single)
-single_within single next single' one made = elim (cases_eq single next) [
-  | inl e ↦
-      let is : single' ≡ 0 = made ∙ ap (λ b. cond b 0 single) (eq-eqb single next e) in
-      (omega (arith, is), λ _. omega (arith, is, e, one))
-  | inr ne ↦
-      let is : single' ≡ single = made ∙ ap (λ b. cond b 0 single) (ne_eqb single next ne) in
       (omega (arith, is), λ e. absurd (ne e))
 ]

@@ -1,30 +1,21 @@
 -- Serves clause before of paths_are_persist_order: what is before an access has a path of edges to it.
-use Rattle.std.proofs.Common.{◌≡◌, ℕ, zero, suc, ◌<◌, Bool, true, false, ◌||◌, ◌&&◌, ◌⊎◌, inl, inr, List, [], ◌∷◌, ◌++◌, Some, None, Option, refl, sym, ap, ◌∙◌, arith}
-use Rattle.std.specs.Prelude.{slice_get, not, ◌==◌, nat_lt}
+use Rattle.std.proofs.Common.{◌≡◌, ℕ, zero, suc, ◌<◌, Bool, true, false, ◌||◌, ◌&&◌, ◌⊎◌, inl, inr, List, [], ◌∷◌, ◌++◌, refl, sym, ap, ◌∙◌, arith}
+use Rattle.std.specs.Prelude.{not, ◌==◌, nat_lt}
 use Rattle.std.proofs.lemmas.Bool.{cases_eq, cases_order, cases_Bool, and_parts, and_from, or_cases, or_left, or_right, eqb-true, eq-eqb, ltb-true, lt-ltb, not-true, false≢true, both_ways}
 use Rattle.strand_inputs.specs.declared.mode.Mode.{Mode}
 use Rattle.strand_inputs.specs.declared.mode.Mode.TheVariants.{Strict, Epoch, Strand}
 use Rattle.strand_events.specs.declared.event.Event.{Event}
-use Rattle.strand_events.specs.declared.event.Event.TheVariants.{Load, Store, Barrier, NewStrand, Join, Out}
 use Rattle.strand_base.specs.Counting.{any_below}
-use Rattle.strand_events.specs.Trace.{passes, is_access, is_store, is_barrier, is_join, is_new_strand, is_barrier_or_join, core_at, word_at, event_is, core_event_is, strand_number, same_strand}
+use Rattle.strand_events.specs.Trace.{is_access, is_store, is_barrier, is_join, is_new_strand, is_barrier_or_join, core_at, word_at, event_is, core_event_is, strand_number, same_strand}
 use Rattle.strand_events.specs.Order.{conflicts, stands_between, core_orders, directly_before, Leads, Before}
 use Rattle.strand_order.specs.Graph.{any_between, stores_word, word_edge, access_or_join, program_edge, gates, is_gate, since_gate, drained_by, join_edge, gate_edge, core_edge, is_edge, EdgePath, LeadsTo}
 use Rattle.strand_base.proofs.BelowBound.{any_from, any_true, at_or_below}
-use Rattle.strand_events.proofs.PersistOrder.Epochs.{weaker, strand_parts, strand_from, strand_flip, strand_chain, between_parts, between_from, direct_parts, conflict_word, same_number}
-
-pub store_is_access : (e : Event) → is_store e ≡ true → is_access e ≡ true
-store_is_access (Store persist core word value) h = refl
-store_is_access (Load core word) h = absurd (false≢true h)
-store_is_access (Barrier core) h = absurd (false≢true h)
-store_is_access (NewStrand core) h = absurd (false≢true h)
-store_is_access (Join core) h = absurd (false≢true h)
-store_is_access (Out core value) h = absurd (false≢true h)
+use Rattle.strand_events.proofs.PersistOrder.Epochs.{weaker, either_passes, store_is_access, strand_parts, strand_from, strand_flip, strand_chain, between_parts, between_from, direct_parts, conflict_parts, same_number}
 
 access_either : (e : Event) → is_access e ≡ true → access_or_join e ≡ true
 access_either e h = or_left (is_access e) (is_join e) h
 
-access_drained : (e : Event) → is_access e ≡ true → drained_by e ≡ true
+pub access_drained : (e : Event) → is_access e ≡ true → drained_by e ≡ true
 access_drained e h = or_left (is_access e || is_barrier e) (is_join e) (or_left (is_access e) (is_barrier e) h)
 
 join_drained : (e : Event) → is_join e ≡ true → drained_by e ≡ true
@@ -94,9 +85,6 @@ module _ (mode : Mode) (t : List Event) where
   conflict_from : (a b : ℕ) → event_is is_access t a ≡ true → event_is is_access t b ≡ true → word_at t a ≡ word_at t b → (event_is is_store t a || event_is is_store t b) ≡ true → conflicts t a b ≡ true
   conflict_from a b x y w s = and_from (event_is is_access t a && event_is is_access t b && (word_at t a == word_at t b)) (event_is is_store t a || event_is is_store t b) (and_from (event_is is_access t a && event_is is_access t b) (word_at t a == word_at t b) (and_from (event_is is_access t a) (event_is is_access t b) x y) (eq-eqb (word_at t a) (word_at t b) w)) s
 
-  conflict_accesses : (a b : ℕ) → conflicts t a b ≡ true → (event_is is_access t a ≡ true) × (event_is is_access t b ≡ true)
-  conflict_accesses a b h = (and_parts (event_is is_access t a) (event_is is_access t b) ((and_parts (event_is is_access t a && event_is is_access t b) (word_at t a == word_at t b) ((and_parts (event_is is_access t a && event_is is_access t b && (word_at t a == word_at t b)) (event_is is_store t a || event_is is_store t b) h).0)).0))
-
   -- conflicting accesses have a path
   conflict_path : (n a b : ℕ) → b < n → a < b → conflicts t a b ≡ true → LeadsTo mode t a b
   conflict_path zero a b bound lt h = absurd (omega arith)
@@ -105,8 +93,8 @@ module _ (mode : Mode) (t : List Event) where
         let s = last_between a b (stores_word t (word_at t b)) some_ in
         let parts = and_parts (event_is is_store t s.0) (word_at t s.0 == word_at t b) s.3 in
         let word : word_at t s.0 ≡ word_at t b = eqb-true (word_at t s.0) (word_at t b) parts.1 in
-        let ab = conflict_accesses a b h in
-        let to : conflicts t a s.0 ≡ true = conflict_from a s.0 ab.0 (store_access s.0 parts.0) (conflict_word t a b h ∙ sym word) (or_right (event_is is_store t a) (event_is is_store t s.0) parts.0) in
+        let ab = conflict_parts t a b h in
+        let to : conflicts t a s.0 ≡ true = conflict_from a s.0 ab.0 (store_access s.0 parts.0) (ab.2 ∙ sym word) (or_right (event_is is_store t a) (event_is is_store t s.0) parts.0) in
         let on : conflicts t s.0 b ≡ true = conflict_from s.0 b (store_access s.0 parts.0) ab.1 word (or_left (event_is is_store t s.0) (event_is is_store t b) parts.0) in
         let less : s.0 < n = omega (arith, s.2) in
         then_edge mode t a s.0 b (conflict_path n a s.0 less s.1 to) (edge_from_word s.0 b s.2 (and_from (conflicts t s.0 b) (not (any_between s.0 b (stores_word t (word_at t b)))) on (ap not s.4)))
@@ -127,6 +115,15 @@ module _ (mode : Mode) (t : List Event) where
         let ca : core_event_is access_or_join (core_at t b) t a ≡ true = and_from (event_is access_or_join t a) (core_at t a == core_at t b) x (eq-eqb (core_at t a) (core_at t b) c) in
         ([], has a b lt (and_from (event_is access_or_join t b && core_event_is access_or_join (core_at t b) t a) (not (stands_between access_or_join (core_at t b) t a b)) (and_from (event_is access_or_join t b) (core_event_is access_or_join (core_at t b) t a) y ca) (ap not none)))
   ]
+
+  -- gates between two events of a core
+  join_gates : (a b : ℕ) → stands_between is_join (core_at t b) t a b ≡ true → any_between a b (gates mode t b) ≡ true
+  join_gates a b join =
+      let k = between_parts is_join (core_at t b) t a b join in
+      between_pass a b k.0 (gates mode t b) k.1 k.2 (or_right (event_is is_barrier t k.0 && same_strand mode t k.0 b) (event_is is_join t k.0 && (core_at t k.0 == core_at t b)) (and_from (event_is is_join t k.0) (core_at t k.0 == core_at t b) k.3 (eq-eqb (core_at t k.0) (core_at t b) k.4)))
+
+  barrier_gates : (a b k : ℕ) → a < k → k < b → event_is is_barrier t k ≡ true → same_strand mode t k b ≡ true → any_between a b (gates mode t b) ≡ true
+  barrier_gates a b k lo hi isb same = between_pass a b k (gates mode t b) lo hi (or_left (event_is is_barrier t k && same_strand mode t k b) (event_is is_join t k && (core_at t k == core_at t b)) (and_from (event_is is_barrier t k) (same_strand mode t k b) isb same))
 
   module _ (has : (i j : ℕ) → i < j → gate_edge mode t i j ≡ true → is_edge mode t i j ≡ true) where
     by_join : (i j : ℕ) → i < j → event_is is_join t j ≡ true → event_is drained_by t i ≡ true → core_at t i ≡ core_at t j → stands_between is_join (core_at t j) t i j ≡ false → is_edge mode t i j ≡ true
@@ -167,7 +164,7 @@ module _ (mode : Mode) (t : List Event) where
                   | inl e ↦ join_path n a h less lo x (ap (event_is is_join t) (sym e) ∙ k.3) (c ∙ sym ch)
                   | inr others ↦ elim others [
                     | inl lt ↦ before h less lo parts.0 (c ∙ sym ch) (inr (between_from is_join (core_at t h) t a h k.0 k.1 lt k.3 (k.4 ∙ sym ch)))
-                    | inr gt ↦ absurd (both_ways (any_between h j (gates mode t j)) none (between_pass h j k.0 (gates mode t j) gt k.2 (or_right (event_is is_barrier t k.0 && same_strand mode t k.0 j) (event_is is_join t k.0 && (core_at t k.0 == core_at t j)) (and_from (event_is is_join t k.0) (core_at t k.0 == core_at t j) k.3 (eq-eqb (core_at t k.0) (core_at t j) k.4)))))
+                    | inr gt ↦ absurd (both_ways (any_between h j (gates mode t j)) none (join_gates h j (between_from is_join (core_at t j) t h j k.0 gt k.2 k.3 k.4)))
                   ]
                 ]
           ]
@@ -189,9 +186,7 @@ module _ (mode : Mode) (t : List Event) where
       | inl some_ ↦ via_gate n a g (λ h less lo isb ch th. gate_path n a h less lo x isb ch th) bound x (or_right (event_is is_access t g) (event_is is_barrier t g) y) c tied some_
       | inr none ↦ elim tied [
         | inl same ↦ ([], since a g lt y x same none)
-        | inr join ↦
-            let k = between_parts is_join (core_at t g) t a g join in
-            absurd (both_ways (any_between a g (gates mode t g)) none (between_pass a g k.0 (gates mode t g) k.1 k.2 (or_right (event_is is_barrier t k.0 && same_strand mode t k.0 g) (event_is is_join t k.0 && (core_at t k.0 == core_at t g)) (and_from (event_is is_join t k.0) (core_at t k.0 == core_at t g) k.3 (eq-eqb (core_at t k.0) (core_at t g) k.4)))))
+        | inr join ↦ absurd (both_ways (any_between a g (gates mode t g)) none (join_gates a g join))
       ]
     ]
 
@@ -199,43 +194,28 @@ module _ (mode : Mode) (t : List Event) where
     gated_path : (a b : ℕ) → event_is is_access t a ≡ true → event_is is_access t b ≡ true → core_at t a ≡ core_at t b → (same_strand mode t a b ≡ true) ⊎ (stands_between is_join (core_at t b) t a b ≡ true) → any_between a b (gates mode t b) ≡ true → LeadsTo mode t a b
     gated_path a b x y c tied some_ = via_gate b a b (λ h less lo isb ch th. gate_path b a h less lo x isb ch th) (omega arith) x (or_left (event_is is_access t b) (event_is is_barrier t b) y) c tied some_
 
-    join_gates : (a b : ℕ) → stands_between is_join (core_at t b) t a b ≡ true → any_between a b (gates mode t b) ≡ true
-    join_gates a b join =
-        let k = between_parts is_join (core_at t b) t a b join in
-        between_pass a b k.0 (gates mode t b) k.1 k.2 (or_right (event_is is_barrier t k.0 && same_strand mode t k.0 b) (event_is is_join t k.0 && (core_at t k.0 == core_at t b)) (and_from (event_is is_join t k.0) (core_at t k.0 == core_at t b) k.3 (eq-eqb (core_at t k.0) (core_at t b) k.4)))
-
-    barrier_gates : (a b k : ℕ) → a < k → k < b → event_is is_barrier t k ≡ true → same_strand mode t k b ≡ true → any_between a b (gates mode t b) ≡ true
-    barrier_gates a b k lo hi isb same = between_pass a b k (gates mode t b) lo hi (or_left (event_is is_barrier t k && same_strand mode t k b) (event_is is_join t k && (core_at t k == core_at t b)) (and_from (event_is is_barrier t k) (same_strand mode t k b) isb same))
-
-either_cases : (t : List Event) (k : ℕ) → event_is is_barrier_or_join t k ≡ true → (event_is is_barrier t k ≡ true) ⊎ (event_is is_join t k ≡ true)
-either_cases t k h = go (slice_get t k) h
-  where
-    go : (o : Option Event) → passes is_barrier_or_join o ≡ true → (passes is_barrier o ≡ true) ⊎ (passes is_join o ≡ true)
-    go None h = absurd (false≢true h)
-    go (Some e) h = or_cases (is_barrier e) (is_join e) h
-
 -- accesses that their core orders have a path
 core_path : (mode : Mode) (t : List Event) (a b : ℕ) → a < b → event_is is_access t a ≡ true → event_is is_access t b ≡ true → core_at t a ≡ core_at t b → core_orders mode (core_at t a) t a b ≡ true → LeadsTo mode t a b
 core_path Strict t a b lt x y c h = program_path Strict t (suc b) a b (omega arith) lt (weaker is_access access_or_join access_either t a x) (weaker is_access access_or_join access_either t b y) c (λ i j below e. edge_from_core Strict t i j below e)
 core_path Epoch t a b lt x y c h =
     let k = between_parts is_barrier_or_join (core_at t a) t a b h in
     let cb : core_at t k.0 ≡ core_at t b = k.4 ∙ c in
-    let some_ : any_between a b (gates Epoch t b) ≡ true = elim (either_cases t k.0 k.3) [
-      | inl barrier ↦ barrier_gates Epoch t (λ i j below e. edge_from_core Epoch t i j below e) a b k.0 k.1 k.2 barrier (strand_from Epoch t k.0 b cb refl)
-      | inr join ↦ join_gates Epoch t (λ i j below e. edge_from_core Epoch t i j below e) a b (between_from is_join (core_at t b) t a b k.0 k.1 k.2 join cb)
+    let some_ : any_between a b (gates Epoch t b) ≡ true = elim (either_passes is_barrier is_join t k.0 k.3) [
+      | inl barrier ↦ barrier_gates Epoch t a b k.0 k.1 k.2 barrier (strand_from Epoch t k.0 b cb refl)
+      | inr join ↦ join_gates Epoch t a b (between_from is_join (core_at t b) t a b k.0 k.1 k.2 join cb)
     ] in
     gated_path Epoch t (λ i j below e. edge_from_core Epoch t i j below e) a b x y c (inl (strand_from Epoch t a b c refl)) some_
 core_path Strand t a b lt x y c h = elim (or_cases (stands_between is_join (core_at t a) t a b) (stands_between is_barrier (core_at t a) t a b && not (stands_between is_new_strand (core_at t a) t a b)) h) [
   | inl join ↦
       let join' : stands_between is_join (core_at t b) t a b ≡ true = ap (λ k. stands_between is_join k t a b) (sym c) ∙ join in
-      gated_path Strand t (λ i j below e. edge_from_core Strand t i j below e) a b x y c (inr join') (join_gates Strand t (λ i j below e. edge_from_core Strand t i j below e) a b join')
+      gated_path Strand t (λ i j below e. edge_from_core Strand t i j below e) a b x y c (inr join') (join_gates Strand t a b join')
   | inr apart ↦
       let parts = and_parts (stands_between is_barrier (core_at t a) t a b) (not (stands_between is_new_strand (core_at t a) t a b)) apart in
       let none = not-true (stands_between is_new_strand (core_at t a) t a b) parts.1 in
       let k = between_parts is_barrier (core_at t a) t a b parts.0 in
       let number_b : strand_number Strand t a ≡ strand_number Strand t b = same_number t a b b x (omega arith) (omega arith) c none in
       let number_k : strand_number Strand t a ≡ strand_number Strand t k.0 = same_number t a b k.0 x (omega (arith, k.1)) (omega (arith, k.2)) (sym k.4) none in
-      gated_path Strand t (λ i j below e. edge_from_core Strand t i j below e) a b x y c (inl (strand_from Strand t a b c number_b)) (barrier_gates Strand t (λ i j below e. edge_from_core Strand t i j below e) a b k.0 k.1 k.2 k.3 (strand_from Strand t k.0 b (k.4 ∙ c) (sym number_k ∙ number_b)))
+      gated_path Strand t (λ i j below e. edge_from_core Strand t i j below e) a b x y c (inl (strand_from Strand t a b c number_b)) (barrier_gates Strand t a b k.0 k.1 k.2 k.3 (strand_from Strand t k.0 b (k.4 ∙ c) (sym number_k ∙ number_b)))
 ]
 
 direct_path : (mode : Mode) (t : List Event) (a b : ℕ) → directly_before mode t a b ≡ true → LeadsTo mode t a b

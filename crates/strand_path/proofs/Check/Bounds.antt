@@ -7,14 +7,14 @@ use Rattle.std.proofs.lemmas.Option.{get_or_from_slice_get, slice_get_within}
 use Rattle.strand_inputs.specs.declared.mode.Mode.{Mode}
 use Rattle.strand_base.proofs.BelowBound.{list_get, at_or_below}
 use Rattle.strand_events.specs.declared.event.Event.{Event}
-use Rattle.strand_events.specs.Trace.{is_persist, is_access, event_is, persists_of}
+use Rattle.strand_events.specs.Trace.{is_persist, is_access, event_is, persists_of, persist_number}
 use Rattle.strand_events.proofs.PersistOrder.Epochs.{weaker, persist_access}
 use Rattle.strand_order.specs.Graph.{is_edge, EdgePath, LeadsTo}
 use Rattle.strand_order.proofs.Paths.Path.{path_before}
 use Rattle.strand_order.proofs.Paths.Before.{before_path, then_edge}
 use Rattle.strand_order.proofs.Edges.List.{list_has}
 use Rattle.strand_path.specs.Chains.{IsChain, events_of}
-use Rattle.strand_path.specs.Checked.{IsRoute, number_of, numbers_on, AreLevels, greatest_below}
+use Rattle.strand_path.specs.Checked.{IsRoute, numbers_on, AreLevels, greatest_below}
 use Rattle.strand_events.proofs.EventWithin.{event_within}
 
 -- no level is above the greatest
@@ -61,16 +61,16 @@ module _ (mode : Mode) (t : List Event) where
     none_longer (p ∷ q ∷ ps) c = omega (arith, chain_bound p (q ∷ ps) c, a.least p c.0)
 
   -- a persist's number names it
-  pub number_again : (x : ℕ) → event_is is_persist t x ≡ true → slice_index (persists_of t) (number_of t x) ≡ x
+  pub number_again : (x : ℕ) → event_is is_persist t x ≡ true → slice_index (persists_of t) (persist_number t x) ≡ x
   number_again x is =
       let at = list_has (length t) (event_is is_persist t) x (event_within is_persist t x is) is in
-      let number : number_of t x ≡ at.0 = (list_get (length t) (event_is is_persist t) at.0 x at.1).2 in
+      let number : persist_number t x ≡ at.0 = (list_get (length t) (event_is is_persist t) at.0 x at.1).2 in
       ap (slice_index (persists_of t)) number ∙ get_or_from_slice_get (persists_of t) at.0 x 0 at.1
 
-  pub number_within : (x : ℕ) → event_is is_persist t x ≡ true → number_of t x < length (persists_of t)
+  pub number_within : (x : ℕ) → event_is is_persist t x ≡ true → persist_number t x < length (persists_of t)
   number_within x is =
       let at = list_has (length t) (event_is is_persist t) x (event_within is_persist t x is) is in
-      let number : number_of t x ≡ at.0 = (list_get (length t) (event_is is_persist t) at.0 x at.1).2 in
+      let number : persist_number t x ≡ at.0 = (list_get (length t) (event_is is_persist t) at.0 x at.1).2 in
       omega (arith, number, slice_get_within (persists_of t) at.0 x at.1)
 
   on_persist : (x : ℕ) (xs : List ℕ) → event_is is_persist t x ≡ true → events_of t (numbers_on t (x ∷ xs)) ≡ x ∷ events_of t (numbers_on t xs)

@@ -9,7 +9,7 @@ use Rattle.strand_events.specs.declared.event.Event.{Event}
 use Rattle.strand_order.specs.declared.edge.Edge.{Edge}
 use Rattle.strand_order.specs.Graph.{is_edge}
 use Rattle.strand_order.specs.Edges.{edges_of, edge_from, StandsBefore}
-use Rattle.strand_order.proofs.Paths.Path.{edge_less}
+use Rattle.strand_order.proofs.Paths.Steps.{edge_less}
 use Rattle.strand_order.proofs.Edges.Ends.{edge_within}
 use Rattle.strand_order.proofs.Edges.List.{edge_listed, listed_rising}
 use Rattle.strand_path.specs.Seeking.{stands_before, joins, IsSought}

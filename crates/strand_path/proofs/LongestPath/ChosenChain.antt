@@ -5,12 +5,12 @@ use Rattle.std.specs.Prelude.{slice_index}
 use Rattle.std.proofs.lemmas.List.{length-append}
 use Rattle.strand_inputs.specs.declared.mode.Mode.{Mode}
 use Rattle.strand_events.specs.declared.event.Event.{Event}
-use Rattle.strand_events.specs.Trace.{is_persist, event_is}
+use Rattle.strand_events.specs.Trace.{is_persist, event_is, persist_number}
 use Rattle.strand_events.specs.Order.{Before}
 use Rattle.strand_order.proofs.Paths.Path.{path_before}
 use Rattle.strand_order.proofs.Paths.Before.{before_path}
 use Rattle.strand_path.specs.Chains.{IsChain, events_of}
-use Rattle.strand_path.specs.Checked.{AreLevels, number_of}
+use Rattle.strand_path.specs.Checked.{AreLevels}
 use Rattle.strand_path.specs.Chosen.{IsLevel, IsChosen}
 use Rattle.strand_path.specs.Building.{AreSupported}
 use Rattle.strand_path.specs.Picking.{ArePicked}
@@ -77,6 +77,6 @@ module _ (mode : Mode) (t : List Event) where
       }
 
   -- persists by their numbers are themselves
-  pub events_again : (chain : List ℕ) → ((k : ℕ) → k < length chain → event_is is_persist t (slice_index chain k) ≡ true) → events_of t (map (number_of t) chain) ≡ chain
+  pub events_again : (chain : List ℕ) → ((k : ℕ) → k < length chain → event_is is_persist t (slice_index chain k) ≡ true) → events_of t (map (persist_number t) chain) ≡ chain
   events_again [] all = refl
-  events_again (x ∷ xs) all = ap (λ y. y ∷ events_of t (map (number_of t) xs)) (number_again mode t x (all 0 (omega arith))) ∙ ap (λ ys. x ∷ ys) (events_again xs (λ k lt. all (suc k) (omega (arith, lt))))
+  events_again (x ∷ xs) all = ap (λ y. y ∷ events_of t (map (persist_number t) xs)) (number_again mode t x (all 0 (omega arith))) ∙ ap (λ ys. x ∷ ys) (events_again xs (λ k lt. all (suc k) (omega (arith, lt))))

@@ -11,7 +11,8 @@ use Rattle.strand_order.specs.declared.edge.Edge.{Edge}
 use Rattle.strand_order.specs.Graph.{is_edge, LeadsTo}
 use Rattle.strand_order.specs.Edges.{edges_of}
 use Rattle.strand_order.proofs.Edges.List.{listed_edge, listed_in_order, ends_within}
-use Rattle.strand_order.proofs.Paths.Path.{edge_less, path_less}
+use Rattle.strand_order.proofs.Paths.Path.{path_less}
+use Rattle.strand_order.proofs.Paths.Steps.{edge_less}
 use Rattle.strand_order.proofs.Paths.Before.{then_edge}
 use Rattle.strand_path.specs.Checked.{goes_up, AreLevels}
 use Rattle.strand_path.specs.Building.{own_level, AreOwn, raised, AreSupported}

@@ -12,7 +12,7 @@ use Rattle.strand_order.specs.declared.edge.Edge.{Edge}
 use Rattle.strand_order.specs.Graph.{is_edge, EdgePath, LeadsTo}
 use Rattle.strand_order.specs.Edges.{edges_of, edge_from}
 use Rattle.strand_order.proofs.Edges.List.{listed_edge, edge_listed, listed_in_order, ends_within}
-use Rattle.strand_order.proofs.Paths.Path.{edge_less}
+use Rattle.strand_order.proofs.Paths.Steps.{edge_less}
 use Rattle.strand_order.proofs.Paths.Before.{then_edge}
 use Rattle.strand_order.proofs.Edges.Ends.{edge_within}
 use Rattle.std.proofs.lemmas.Option.{slice_get_within}

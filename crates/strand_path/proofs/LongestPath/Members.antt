@@ -1,7 +1,7 @@
 -- Serves longest, by members: the members of the chosen chain, from the last to the first.
-use Rattle.std.proofs.Common.{◌≡◌, ℕ, zero, suc, ◌<◌, ◌≤◌, Bool, true, inl, inr, List, length, refl, sym, ap, ◌∙◌, arith, subst}
+use Rattle.std.proofs.Common.{◌≡◌, ℕ, zero, suc, ◌<◌, ◌≤◌, true, inl, inr, List, length, refl, sym, ap, ◌∙◌, arith, subst}
 use Rattle.std.specs.Prelude.{slice_index, slice_set, ◌==◌, max}
-use Rattle.std.proofs.lemmas.Bool.{cases_eq, cases_lt, cases_Bool, and_parts, and_from, eqb-true, eq-eqb, both_ways}
+use Rattle.std.proofs.lemmas.Bool.{cases_eq, cases_lt, cases_Bool, and_from, eq-eqb}
 use Rattle.std.proofs.lemmas.List.{get_or-set_other, get_or-set_same, length-set}
 use Rattle.strand_inputs.specs.declared.mode.Mode.{Mode}
 use Rattle.strand_events.specs.declared.event.Event.{Event}
@@ -10,16 +10,7 @@ use Rattle.strand_order.proofs.Paths.Path.{path_less}
 use Rattle.strand_path.specs.Checked.{greatest_below}
 use Rattle.strand_path.specs.Building.{own_level}
 use Rattle.strand_path.specs.Tracing.{AreFirsts, AreVias}
-use Rattle.strand_path.specs.Picking.{is_of_level, IsFirst, IsSome, IsPick, ArePicked}
-
--- a first one is no later than any
-first_least : (test : ℕ → Bool) (p r : ℕ) → IsFirst test p → test r ≡ true → p ≤ r
-first_least test p r f h = elim (cases_lt r p) [ inl lt ↦ absurd (both_ways (test r) (f.none r lt) h) | inr le ↦ le ]
-
-level_parts : (t : List Event) (levels : List ℕ) (level k : ℕ) → is_of_level t levels level k ≡ true → (event_is is_persist t k ≡ true) × (slice_index levels k ≡ level)
-level_parts t levels level k h =
-    let parts = and_parts (event_is is_persist t k) (slice_index levels k == level) h in
-    (parts.0, eqb-true (slice_index levels k) level parts.1)
+use Rattle.strand_path.specs.Picking.{is_of_level, IsSome, IsPick, ArePicked}
 
 level_from : (t : List Event) (levels : List ℕ) (level k : ℕ) → event_is is_persist t k ≡ true → slice_index levels k ≡ level → is_of_level t levels level k ≡ true
 level_from t levels level k is at = and_from (event_is is_persist t k) (slice_index levels k == level) is (eq-eqb (slice_index levels k) level at)
@@ -46,33 +37,6 @@ greatest_some t levels (suc n) one = elim (cases_Bool (event_is is_persist t n))
 ]
 
 module _ (mode : Mode) (t : List Event) where
-  -- no member yet
-  pub picked_none : (levels chain : List ℕ) (n : ℕ) → length chain ≤ n → length chain ≡ greatest_below t levels (length t) → ArePicked mode t levels chain n
-  picked_none levels chain n past long = record {
-    long = long;
-    persist = λ k le lt. absurd (omega (arith, le, lt, past));
-    level = λ k le lt. absurd (omega (arith, le, lt, past));
-    last = λ k le e. absurd (omega (arith, le, e, past));
-    pick = λ k le lt. absurd (omega (arith, le, lt, past));
-  }
-
-  -- the last member
-  pub picked_last : (levels chain : List ℕ) (n p : ℕ) → suc n ≡ length chain → length chain ≡ greatest_below t levels (length t) → IsFirst (is_of_level t levels (suc n)) p → ArePicked mode t levels (slice_set chain n p) n
-  picked_last levels chain n p one long f =
-      let own = level_parts t levels (suc n) p f.passes in
-      let size : length (slice_set chain n p) ≡ length chain = length-set chain n p in
-      let here : slice_index (slice_set chain n p) n ≡ p = get_or-set_same chain n p 0 (omega (arith, one)) in
-      record {
-        long = size ∙ long;
-        persist = λ k le lt. let same : k ≡ n = omega (arith, le, lt, size, one) in ap (λ x. event_is is_persist t (slice_index (slice_set chain n p) x)) same ∙ ap (event_is is_persist t) here ∙ own.0;
-        level = λ k le lt. let same : k ≡ n = omega (arith, le, lt, size, one) in ap (λ x. slice_index levels (slice_index (slice_set chain n p) x)) same ∙ ap (slice_index levels) here ∙ own.1 ∙ ap suc (sym same);
-        last = λ k le e r is at.
-            let same : k ≡ n = omega (arith, e, size, one) in
-            let least : p ≤ r = first_least (is_of_level t levels (suc n)) p r f (level_from t levels (suc n) r is (at ∙ ap suc same)) in
-            omega (arith, least, here, ap (slice_index (slice_set chain n p)) same);
-        pick = λ k le lt. absurd (omega (arith, le, lt, size, one));
-      }
-
   -- one member more
   pub picked_more : (levels chain : List ℕ) (n p : ℕ) → suc n < length chain → IsPick mode t levels (slice_index chain (suc n)) (suc n) p → ArePicked mode t levels chain (suc n) → ArePicked mode t levels (slice_set chain n p) n
   picked_more levels chain n p inside pick a =

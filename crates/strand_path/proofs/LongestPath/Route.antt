@@ -6,9 +6,9 @@ use Rattle.std.proofs.lemmas.Bool.{cases_Bool}
 use Rattle.std.proofs.lemmas.List.{map-append, take_more}
 use Rattle.strand_inputs.specs.declared.mode.Mode.{Mode}
 use Rattle.strand_events.specs.declared.event.Event.{Event}
-use Rattle.strand_events.specs.Trace.{is_persist, event_is}
+use Rattle.strand_events.specs.Trace.{is_persist, event_is, persist_number}
 use Rattle.strand_order.specs.Graph.{is_edge, EdgePath}
-use Rattle.strand_path.specs.Checked.{IsRoute, number_of, numbers_on, AreLevels}
+use Rattle.strand_path.specs.Checked.{IsRoute, numbers_on, AreLevels}
 use Rattle.strand_path.specs.Picking.{IsAppendedPath}
 use Rattle.strand_order.proofs.Edges.Ends.{edge_within}
 use Rattle.strand_path.proofs.Check.Bounds.{path_lt, up_le}
@@ -23,19 +23,19 @@ pub record IsRouteTo (mode : Mode) (t : List Event) (members : List ℕ) (k : �
   pub rest : List ℕ
   pub made : route ≡ slice_index members 0 ∷ rest
   pub joins : Joins mode t (slice_index members 0) rest (slice_index members (k - 1))
-  pub numbers : numbers_on t route ≡ map (number_of t) (take k members)
+  pub numbers : numbers_on t route ≡ map (persist_number t) (take k members)
 
 on_append : (t : List Event) (xs ys : List ℕ) → numbers_on t (xs ++ ys) ≡ numbers_on t xs ++ numbers_on t ys
 on_append t [] ys = refl
 on_append t (x ∷ xs) ys = elim (cases_Bool (event_is is_persist t x)) [
-  | inl is ↦ rw is (ap (λ zs. number_of t x ∷ zs) (on_append t xs ys))
+  | inl is ↦ rw is (ap (λ zs. persist_number t x ∷ zs) (on_append t xs ys))
   | inr none ↦ rw none (on_append t xs ys)
 ]
 
-numbers_more : (t : List Event) (members : List ℕ) (k : ℕ) → k < length members → map (number_of t) (take (k + 1) members) ≡ map (number_of t) (take k members) ++ number_of t (slice_index members k) ∷ []
-numbers_more t members k lt = ap (map (number_of t)) (take_more members k 0 lt) ∙ map-append (number_of t) (take k members) (slice_index members k ∷ [])
+numbers_more : (t : List Event) (members : List ℕ) (k : ℕ) → k < length members → map (persist_number t) (take (k + 1) members) ≡ map (persist_number t) (take k members) ++ persist_number t (slice_index members k) ∷ []
+numbers_more t members k lt = ap (map (persist_number t)) (take_more members k 0 lt) ∙ map-append (persist_number t) (take k members) (slice_index members k ∷ [])
 
-on_one : (t : List Event) (x : ℕ) → event_is is_persist t x ≡ true → numbers_on t (x ∷ []) ≡ number_of t x ∷ []
+on_one : (t : List Event) (x : ℕ) → event_is is_persist t x ≡ true → numbers_on t (x ∷ []) ≡ persist_number t x ∷ []
 on_one t x is = rw is refl
 
 module _ (mode : Mode) (t : List Event) where
@@ -65,14 +65,6 @@ module _ (mode : Mode) (t : List Event) where
       joined x (y ∷ ys) z j zero inside = j.0
       joined x (y ∷ ys) z j (suc k) inside = joined y ys z j.1 k (omega (arith, inside))
 
-  pub route_first : (members route : List ℕ) → 0 < length members → event_is is_persist t (slice_index members 0) ≡ true → route ≡ slice_index members 0 ∷ [] → IsRouteTo mode t members 1 route
-  route_first members route lt is made = record {
-    rest = [];
-    made = made;
-    joins = refl;
-    numbers = ap (numbers_on t) made ∙ on_one t (slice_index members 0) is ∙ sym (numbers_more t members 0 lt);
-  }
-
   pub route_more : (levels members : List ℕ) (k : ℕ) (route new : List ℕ) → AreLevels mode t levels → k < length members → event_is is_persist t (slice_index members k) ≡ true → slice_index levels (slice_index members k) ≤ suc (slice_index levels (slice_index members (k - 1))) → IsRouteTo mode t members k route → IsAppendedPath mode t (slice_index members (k - 1)) (slice_index members k) route new → IsRouteTo mode t members (k + 1) new
   route_more levels members k route new a lt is near r w =
       let q = slice_index members k in
@@ -82,7 +74,7 @@ module _ (mode : Mode) (t : List Event) where
         made = w.made ∙ ap (λ xs. xs ++ (w.between ++ q ∷ [])) r.made;
         joins = subst (λ x. Joins mode t (slice_index members 0) (r.rest ++ (w.between ++ q ∷ [])) (slice_index members x)) (sym last) (joins_more (slice_index members 0) r.rest (slice_index members (k - 1)) w.between q r.joins w.path);
         numbers = ap (numbers_on t) w.made ∙ on_append t route (w.between ++ q ∷ []) ∙ ap (λ xs. xs ++ numbers_on t (w.between ++ q ∷ [])) r.numbers
-            ∙ ap (λ xs. map (number_of t) (take k members) ++ xs) (on_append t w.between (q ∷ []) ∙ ap (λ xs. xs ++ numbers_on t (q ∷ [])) (none_on levels a (slice_index members (k - 1)) w.between q w.path is near) ∙ on_one t q is)
+            ∙ ap (λ xs. map (persist_number t) (take k members) ++ xs) (on_append t w.between (q ∷ []) ∙ ap (λ xs. xs ++ numbers_on t (q ∷ [])) (none_on levels a (slice_index members (k - 1)) w.between q w.path is near) ∙ on_one t q is)
             ∙ sym (numbers_more t members k lt);
       }
 

@@ -1,13 +1,13 @@
 -- Serves longest, by walk: the way back from a member to the one before it, by the links.
-use Rattle.std.proofs.Common.{◌≡◌, ℕ, suc, ◌+◌, ◌<◌, ◌≤◌, ◌⊎◌, inl, inr, List, [], ◌∷◌, ◌++◌, length, take, refl, sym, ap, ◌∙◌, arith, cond, subst, append_assoc}
+use Rattle.std.proofs.Common.{◌≡◌, ℕ, suc, ◌<◌, ◌≤◌, ◌⊎◌, inl, inr, List, [], ◌∷◌, ◌++◌, length, refl, sym, ap, ◌∙◌, arith, cond, subst}
 use Rattle.std.specs.Prelude.{slice_index, reverse}
 use Rattle.std.proofs.lemmas.Bool.{cases_lt, cases_Bool}
-use Rattle.std.proofs.lemmas.List.{get_or_past, reverse-append, take_more}
+use Rattle.std.proofs.lemmas.List.{get_or_past, reverse-append}
 use Rattle.strand_inputs.specs.declared.mode.Mode.{Mode}
 use Rattle.strand_events.specs.declared.event.Event.{Event}
 use Rattle.strand_events.specs.Trace.{is_persist, event_is}
 use Rattle.strand_order.specs.Graph.{is_edge, EdgePath}
-use Rattle.strand_order.proofs.Paths.Path.{edge_less}
+use Rattle.strand_order.proofs.Paths.Steps.{edge_less}
 use Rattle.strand_path.specs.Building.{own_level}
 use Rattle.strand_path.specs.Picking.{IsAppendedPath}
 use Rattle.strand_path.specs.Tracing.{AreVias}
@@ -54,10 +54,3 @@ module _ (mode : Mode) (t : List Event) (levels firsts vias : List ℕ) (a : Are
     | inl (there, none) ↦ absurd (omega (arith, lt, here, there))
     | inr (between, path, is) ↦ record { between = between; path = subst (λ y. EdgePath mode t y between q) here path; made = made ∙ ap (λ ys. old ++ ys) is }
   ]
-
--- one number more from the end of a list
-pub put_more : (route done list : List ℕ) (k : ℕ) → k < length list → route ++ reverse (take (k + 1) list) ≡ done → (route ++ slice_index list k ∷ []) ++ reverse (take k list) ≡ done
-put_more route done list k lt e =
-    let x = slice_index list k in
-    let split : reverse (take (k + 1) list) ≡ x ∷ reverse (take k list) = ap reverse (take_more list k 0 lt) ∙ reverse-append (take k list) (x ∷ []) in
-    append_assoc route (x ∷ []) (reverse (take k list)) ∙ ap (λ xs. route ++ xs) (sym split) ∙ e

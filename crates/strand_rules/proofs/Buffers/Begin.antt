@@ -2,16 +2,16 @@
 use Rattle.std.proofs.Common.{◌≡◌, ℕ, ◌+◌, ◌<◌, ◌≤◌, Bool, true, inl, inr, List, [], ◌∷◌, ◌++◌, length, refl, sym, ap, subst, ◌∙◌, arith}
 use Rattle.std.specs.Prelude.{Some, None, slice_get, ◌%◌, ◌==◌}
 use Rattle.std.specs.declared.option.Option.{Option}
-use Rattle.std.proofs.lemmas.Bool.{and_from, eq-eqb, false≢true}
+use Rattle.std.proofs.lemmas.Bool.{and_from, eq-eqb, or_cases, both_ways, false≢true}
 use Rattle.strand_base.specs.Counting.{count_below}
 use Rattle.strand_base.proofs.BelowBound.{count_strict}
 use Rattle.strand_inputs.specs.declared.mode.Mode.{Mode}
 use Rattle.strand_inputs.specs.declared.mode.Mode.TheVariants.{Strict, Epoch, Strand}
 use Rattle.strand_events.specs.declared.event.Event.{Event}
-use Rattle.strand_events.specs.declared.event.Event.TheVariants as events
-use Rattle.strand_events.specs.Trace.{passes, is_persist, is_new_strand, core_at, event_is, core_event_is, strand_number}
+use Rattle.strand_events.specs.Trace.{passes, is_persist, is_barrier, is_new_strand, core_at, event_is, core_event_is, strand_number}
 use Rattle.strand_events.specs.Order.{Set}
 use Rattle.strand_events.proofs.LongerTrace.{core_kept, number_kept}
+use Rattle.strand_events.proofs.PersistOrder.Epochs.{persist_access, access_begins_none, barrier_begins_none}
 use Rattle.strand_rules.specs.Cycle.{is_item}
 use Rattle.strand_rules.proofs.Order.Sets.Event.{new_or_old, was, rank_kept, items_kept}
 use Rattle.strand_rules.proofs.Ranks.{rank}
@@ -33,35 +33,20 @@ AreEmptied mode buffers t dispatched durable = (p j : ℕ) → Taken mode t disp
     → core_at t p ≡ core_at t j → strand_number mode t p ≤ strand_number mode t j → strand_number mode t p % buffers ≡ (strand_number mode t j + 1) % buffers
     → durable p ≡ true
 
--- a begin of a strand is an item under strand alone
-item_strand : (mode : Mode) (e : Event) → is_new_strand e ≡ true → is_item mode e ≡ true → mode ≡ Strand
-item_strand Strand e begins item = refl
-item_strand Strict (events.NewStrand core) begins item = absurd (false≢true item)
-item_strand Strict (events.Load core word) begins item = absurd (false≢true begins)
-item_strand Strict (events.Store core word value persist) begins item = absurd (false≢true begins)
-item_strand Strict (events.Barrier core) begins item = absurd (false≢true begins)
-item_strand Strict (events.Join core) begins item = absurd (false≢true begins)
-item_strand Strict (events.Out core value) begins item = absurd (false≢true begins)
-item_strand Epoch (events.NewStrand core) begins item = absurd (false≢true item)
-item_strand Epoch (events.Load core word) begins item = absurd (false≢true begins)
-item_strand Epoch (events.Store core word value persist) begins item = absurd (false≢true begins)
-item_strand Epoch (events.Barrier core) begins item = absurd (false≢true begins)
-item_strand Epoch (events.Join core) begins item = absurd (false≢true begins)
-item_strand Epoch (events.Out core value) begins item = absurd (false≢true begins)
-
-found_strand : (mode : Mode) (o : Option Event) → passes is_new_strand o ≡ true → passes (is_item mode) o ≡ true → mode ≡ Strand
-found_strand mode None begins item = absurd (false≢true begins)
-found_strand mode (Some e) begins item = item_strand mode e begins item
-
 -- no persist begins a strand
 pub begins_none : (o : Option Event) → passes is_new_strand o ≡ true → passes is_persist o ≡ true → ⊥
 begins_none None begins is = false≢true begins
-begins_none (Some (events.NewStrand core)) begins is = false≢true is
-begins_none (Some (events.Load core word)) begins is = false≢true begins
-begins_none (Some (events.Store core word value persist)) begins is = false≢true begins
-begins_none (Some (events.Barrier core)) begins is = false≢true begins
-begins_none (Some (events.Join core)) begins is = false≢true begins
-begins_none (Some (events.Out core value)) begins is = false≢true begins
+begins_none (Some e) begins is = both_ways (is_new_strand e) (access_begins_none e (persist_access e is)) begins
+
+-- a begin of a strand is an item under strand alone
+pub found_strand : (mode : Mode) (o : Option Event) → passes is_new_strand o ≡ true → passes (is_item mode) o ≡ true → mode ≡ Strand
+found_strand mode None begins item = absurd (false≢true begins)
+found_strand Strand (Some e) begins item = refl
+found_strand Strict (Some e) begins item = absurd (begins_none (Some e) begins item)
+found_strand Epoch (Some e) begins item = elim (or_cases (is_persist e) (is_barrier e) item) [
+  | inl is ↦ absurd (begins_none (Some e) begins is)
+  | inr is ↦ absurd (both_ways (is_new_strand e) (barrier_begins_none e is) begins)
+]
 
 strand_rises : (mode : Mode) (t : List Event) (j k : ℕ) → mode ≡ Strand → event_is is_new_strand t j ≡ true → core_at t j ≡ core_at t k → j < k → strand_number mode t j < strand_number mode t k
 strand_rises mode t j k is begins c lt = rw is (

@@ -25,9 +25,6 @@ module _ (g : Settings) (s : State) (n k : ℕ) (first : front g s n ≡ Some k)
   core_k : core_at s.now.trace k ≡ n
   core_k = eqb-true (core_at s.now.trace k) n ((and_parts (event_is (is_item g.mode) s.now.trace k) (core_at s.now.trace k == n) ((found g s n k first).1)).1)
 
-  rank_k : rank g.mode s.now.trace k ≡ gone s n
-  rank_k = ap (λ c. count_below k (core_event_is (is_item g.mode) c s.now.trace)) core_k ∙ (found g s n k first).2
-
   -- an item that is dispatched now was dispatched before, or is the first of the queue
   was_gone : (x : ℕ) → event_is (is_item g.mode) s.now.trace x ≡ true → rank g.mode s.now.trace x < slice_index dispatched' (core_at s.now.trace x) → (rank g.mode s.now.trace x < gone s (core_at s.now.trace x)) ⊎ (x ≡ k)
   was_gone x item below = elim (cases_eq (core_at s.now.trace x) n) [

@@ -14,7 +14,7 @@ use Rattle.strand_exec.specs.Memory.{Memory}
 use Rattle.strand_events.specs.declared.event.Event.{Event}
 use Rattle.strand_events.specs.Trace.{is_persist, core_at, event_is, core_event_is}
 use Rattle.strand_events.specs.Order.{set_of}
-use Rattle.strand_rules.specs.Visible.{Program, grown}
+use Rattle.strand_rules.specs.Visible.{Program, with_event}
 use Rattle.strand_rules.specs.declared.turn.Turn.{Turn}
 use Rattle.strand_rules.specs.declared.turn.Cause.TheVariants as causes
 use Rattle.strand_rules.specs.declared.turn.Turn.TheVariants.{Done, Bubble, Fault}
@@ -47,7 +47,7 @@ start_fit g cores memory = record {
   requests = omega arith;
 }
 
-fit_more : (g : Settings) (s : State) → IsGood g s → IsFit g s → (o : Option Event) → Fits g (grown s.now.trace o) s.dispatched s.flight (unmarked s.durable o)
+fit_more : (g : Settings) (s : State) → IsGood g s → IsFit g s → (o : Option Event) → Fits g (with_event s.now.trace o) s.dispatched s.flight (unmarked s.durable o)
 fit_more g s good fit None = fit
 fit_more g s good fit (Some e) = record {
   emptied = subst (λ d. AreEmptied g.mode g.buffers (s.now.trace ++ e ∷ []) (slice_index s.dispatched) d) (sym (held_grown s.durable))

@@ -1,14 +1,14 @@
 -- Serves clause parts of parts_are_kept: a dispatch, a send and a write keep the parts apart.
 -- The buffered set, the flight list and the durable set have no persist in common, and the flight list has no repeats.
-use Rattle.std.proofs.Common.{◌≡◌, ℕ, suc, ◌<◌, ◌≤◌, true, ◌⊎◌, inl, inr, List, [], ◌∷◌, ◌++◌, length, Some, sym, ap, subst, ◌∙◌, arith, length-append}
+use Rattle.std.proofs.Common.{◌≡◌, ℕ, suc, ◌<◌, true, ◌⊎◌, inl, inr, List, [], ◌∷◌, ◌++◌, length, Some, sym, ap, subst, ◌∙◌, arith, length-append}
 use Rattle.std.specs.Prelude.{slice_get, remove, not, ◌==◌}
-use Rattle.std.proofs.lemmas.Bool.{cases_eq, cases_lt, and_parts, eq-eqb, both_ways, not-true}
+use Rattle.std.proofs.lemmas.Bool.{cases_eq, and_parts, eq-eqb, both_ways, not-true}
 use Rattle.std.proofs.lemmas.Option.{same_Some, slice_get_within}
 use Rattle.strand_events.specs.Order.{Set}
 use Rattle.strand_base.proofs.BelowBound.{get_more, get_last, at_or_below}
 use Rattle.strand_rules.specs.DispatchedPersists.{InFlight, Sent, AreApart}
 use Rattle.strand_rules.proofs.Sets.{with_, without, with_cases, without_old}
-use Rattle.strand_rules.proofs.Order.Sets.Write.{removed_below, removed_above}
+use Rattle.strand_rules.proofs.Order.Sets.Write.{left_place, was_in_flight}
 
 module _ (buffered : Set) (flight : List ℕ) (durable : Set) (apart : AreApart buffered flight durable) where
   pub dispatch_apart : (k : ℕ) → (Sent flight durable k → ⊥) → (buffered' : Set) → ((p : ℕ) → buffered' p ≡ true → (p ≡ k) ⊎ (buffered p ≡ true)) → AreApart buffered' flight durable
@@ -51,41 +51,31 @@ module _ (buffered : Set) (flight : List ℕ) (durable : Set) (apart : AreApart 
     send_apart = record { one_place = places; not_both = neither; not_done = undone }
 
   module _ (j p : ℕ) (at_j : slice_get flight j ≡ Some p) where
-    -- where a request that is left stood before
-    left_place : (i x : ℕ) → slice_get (remove flight j) i ≡ Some x → ((i < j) × (slice_get flight i ≡ Some x)) ⊎ ((j ≤ i) × (slice_get flight (suc i) ≡ Some x))
-    left_place i x at = elim (cases_lt i j) [
-      | inl lt ↦ inl (lt, sym (removed_below flight j i lt) ∙ at)
-      | inr ge ↦ inr (ge, sym (removed_above flight j i ge) ∙ at)
-    ]
-
-    left_in_flight : (x : ℕ) → InFlight (remove flight j) x → InFlight flight x
-    left_in_flight x (i, at) = elim (left_place i x at) [ inl (lt, is) ↦ (i, is) | inr (ge, is) ↦ (suc i, is) ]
-
     -- the request written is gone from the list
     gone : (x : ℕ) → InFlight (remove flight j) x → x ≡ p → ⊥
-    gone x (i, at) e = elim (left_place i x at) [
+    gone x (i, at) e = elim (left_place flight j i x at) [
       | inl (lt, is) ↦ let same : i ≡ j = apart.one_place i j x is (at_j ∙ ap Some (sym e)) in omega arith
       | inr (ge, is) ↦ let same : suc i ≡ j = apart.one_place (suc i) j x is (at_j ∙ ap Some (sym e)) in omega arith
     ]
 
     left_places : (i h x : ℕ) → slice_get (remove flight j) i ≡ Some x → slice_get (remove flight j) h ≡ Some x → i ≡ h
-    left_places i h x a b = elim (left_place i x a) [
-      | inl (lt, is) ↦ elim (left_place h x b) [
+    left_places i h x a b = elim (left_place flight j i x a) [
+      | inl (lt, is) ↦ elim (left_place flight j h x b) [
         | inl (lt', is') ↦ apart.one_place i h x is is'
         | inr (ge, is') ↦ let e : i ≡ suc h = apart.one_place i (suc h) x is is' in absurd (omega arith)
       ]
-      | inr (ge, is) ↦ elim (left_place h x b) [
+      | inr (ge, is) ↦ elim (left_place flight j h x b) [
         | inl (lt', is') ↦ let e : suc i ≡ h = apart.one_place (suc i) h x is is' in absurd (omega arith)
         | inr (ge', is') ↦ let e : suc i ≡ suc h = apart.one_place (suc i) (suc h) x is is' in omega arith
       ]
     ]
 
     not_both_left : (x : ℕ) → buffered x ≡ true → Sent (remove flight j) (with_ p durable) x → ⊥
-    not_both_left x b (inl f) = apart.not_both x b (inl (left_in_flight x f))
+    not_both_left x b (inl f) = apart.not_both x b (inl (was_in_flight flight j x f))
     not_both_left x b (inr d) = elim (with_cases p durable x d) [ inl e ↦ apart.not_both x b (inl (j, at_j ∙ ap Some (sym e))) | inr old ↦ apart.not_both x b (inr old) ]
 
     not_done_left : (x : ℕ) → InFlight (remove flight j) x → with_ p durable x ≡ true → ⊥
-    not_done_left x f d = elim (with_cases p durable x d) [ inl e ↦ gone x f e | inr old ↦ apart.not_done x (left_in_flight x f) old ]
+    not_done_left x f d = elim (with_cases p durable x d) [ inl e ↦ gone x f e | inr old ↦ apart.not_done x (was_in_flight flight j x f) old ]
 
     pub write_apart : AreApart buffered (remove flight j) (with_ p durable)
     write_apart = record { one_place = left_places; not_both = not_both_left; not_done = not_done_left }

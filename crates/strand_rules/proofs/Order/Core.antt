@@ -10,7 +10,7 @@ use Rattle.strand_events.specs.declared.event.Event.{Event}
 use Rattle.strand_events.specs.Trace.{passes, is_persist, is_store, is_access, core_of, core_at, word_at, event_is}
 use Rattle.strand_events.specs.Order.{set_of, conflicts}
 use Rattle.strand_events.proofs.LongerTrace.{core_kept}
-use Rattle.strand_rules.specs.Visible.{Program, event_of, grown, next_plan}
+use Rattle.strand_rules.specs.Visible.{Program, event_of, with_event, next_plan}
 use Rattle.strand_rules.specs.declared.turn.Cause.TheVariants as causes
 use Rattle.strand_rules.specs.declared.turn.Turn.TheVariants.{Done}
 use Rattle.strand_rules.specs.Cycle.{State, core_turn, made_turn, event_in, next_event, unmarked, core_after}
@@ -39,7 +39,7 @@ unmarked_held marks (Some e) = held_grown marks
 
 module _ (g : Settings) (s : State) (good : IsGood g s) (n : ℕ) (there : n < length s.now.cores) where
   ordered_more : (o : Option Event) → ((e : Event) → o ≡ Some e → core_of e ≡ n) → made_turn g s n o ≡ Done
-      → Ordered g.conflict g.mode (grown s.now.trace o) (slice_index s.dispatched) (set_of s.buffered) s.flight (set_of s.durable)
+      → Ordered g.conflict g.mode (with_event s.now.trace o) (slice_index s.dispatched) (set_of s.buffered) s.flight (set_of s.durable)
   ordered_more None own done = good.ordered
   ordered_more (Some e) own done =
       let seen = event_done g s n e done in
@@ -47,7 +47,7 @@ module _ (g : Settings) (s : State) (good : IsGood g s) (n : ℕ) (there : n < l
       (λ join p isp cp. none_wait s.now.trace (set_of s.durable) n (length s.now.trace) (seen.0 join) p isp (cp ∙ own e refl) (event_within is_persist s.now.trace p isp))
       (λ stall a lt meets apart. waited g.mode (s.now.trace ++ e ∷ []) (set_of s.durable) (length s.now.trace) (seen.1 stall (access_new s.now.trace e a meets)) a lt meets apart)
 
-  cores_more : (o : Option Event) → ((e : Event) → o ≡ Some e → core_of e ≡ n) → (i : ℕ) → i < length (grown s.now.trace o) → core_at (grown s.now.trace o) i < length s.now.cores
+  cores_more : (o : Option Event) → ((e : Event) → o ≡ Some e → core_of e ≡ n) → (i : ℕ) → i < length (with_event s.now.trace o) → core_at (with_event s.now.trace o) i < length s.now.cores
   cores_more None own i inside = good.owned i inside
   cores_more (Some e) own i inside = elim (cases_eq i (length s.now.trace)) [
     | inl new ↦ rw (ap (core_at (s.now.trace ++ e ∷ [])) new ∙ core_new s.now.trace e ∙ own e refl) there
@@ -55,7 +55,7 @@ module _ (g : Settings) (s : State) (good : IsGood g s) (n : ℕ) (there : n < l
   ]
 
   pub good_more : (o : Option Event) → ((e : Event) → o ≡ Some e → core_of e ≡ n) → made_turn g s n o ≡ Done
-      → Good g.conflict g.mode (grown s.now.trace o) (length s.now.cores) s.dispatched (unmarked s.buffered o) s.flight (unmarked s.durable o)
+      → Good g.conflict g.mode (with_event s.now.trace o) (length s.now.cores) s.dispatched (unmarked s.buffered o) s.flight (unmarked s.durable o)
   good_more o own done = record {
     ordered = rw (unmarked_held s.buffered o, unmarked_held s.durable o) (ordered_more o own done);
     apart = rw (unmarked_held s.buffered o, unmarked_held s.durable o) good.apart;
@@ -69,6 +69,6 @@ pub core_good : (g : Settings) (p : Program) (s : State) (n : ℕ) → IsGood g 
 core_good g p s n good done = rw (retired_trace p s.now n, retired_cores p s.now n) (go (next_plan p s.now n) refl done)
   where
     go : (o : Option Plan) → next_plan p s.now n ≡ o → core_turn g s n o ≡ Done
-        → Good g.conflict g.mode (grown s.now.trace (event_in n s.now.memory o)) (length s.now.cores) s.dispatched (unmarked s.buffered (event_in n s.now.memory o)) s.flight (unmarked s.durable (event_in n s.now.memory o))
+        → Good g.conflict g.mode (with_event s.now.trace (event_in n s.now.memory o)) (length s.now.cores) s.dispatched (unmarked s.buffered (event_in n s.now.memory o)) s.flight (unmarked s.durable (event_in n s.now.memory o))
     go None is turned = absurd (bubble_not_done causes.Ended turned)
     go (Some plan) is turned = good_more g s good n (plan_there p s.now n plan is) (event_of n s.now.memory plan) (λ e at. event_core n s.now.memory plan e at) turned

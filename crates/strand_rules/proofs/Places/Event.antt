@@ -15,7 +15,7 @@ use Rattle.strand_events.specs.declared.event.Event.TheVariants as events
 use Rattle.strand_events.specs.Fits.{is_persistent}
 use Rattle.strand_events.specs.Trace.{is_persist}
 use Rattle.strand_events.specs.Places.{LieIn}
-use Rattle.strand_rules.specs.Visible.{event_of, grown}
+use Rattle.strand_rules.specs.Visible.{event_of, with_event}
 
 -- one event more that is no persist, or one to the persistent words
 lie_more : (words : ℕ) (t : List Event) (e : Event) → LieIn t words → LieIn (e ∷ []) words → LieIn (t ++ e ∷ []) words
@@ -39,7 +39,7 @@ store_placed x n word value true small at e zero is =
     ]
 
 pub event_placed : (x : Extents) (n : ℕ) (m : Memory) (p : Plan) (t : List Event) → x.volatile ≤ MOST_MEMORY → StoresData x p
-    → LieIn t x.persistent → LieIn (grown t (event_of n m p)) x.persistent
+    → LieIn t x.persistent → LieIn (with_event t (event_of n m p)) x.persistent
 event_placed x n m Plain t small placed all = all
 event_placed x n m (Load word) t small placed all = lie_more x.persistent t _ all (lie_none x.persistent _ refl)
 event_placed x n m (Store word mask bits) t small placed all = lie_more x.persistent t _ all (store_placed x n word (merged (word_in m word) mask bits) (is_persistent word) small placed refl)

@@ -13,7 +13,7 @@ use Rattle.strand_exec.specs.declared.life.Life.TheVariants.{Running, Halted, Tr
 use Rattle.strand_exec.proofs.StoresData.{plan_data}
 use Rattle.strand_events.specs.declared.event.Event.{Event}
 use Rattle.strand_events.specs.Places.{LieIn}
-use Rattle.strand_rules.specs.Visible.{Program, Visible, grown, plan_by, plan_in}
+use Rattle.strand_rules.specs.Visible.{Program, Visible, with_event, plan_by, plan_in}
 use Rattle.strand_rules.specs.declared.turn.Turn.{Turn}
 use Rattle.strand_rules.specs.declared.turn.Turn.TheVariants.{Done, Bubble, Fault}
 use Rattle.strand_rules.specs.Cycle.{State, turn, done_after, after_turn, after, after_steps, front, eligible, event_in, item_after, send_after, write_after}
@@ -24,12 +24,12 @@ abbrev pub ArePlaced : Program → List Event → Type 0
 ArePlaced p t = LieIn t p.sizes.persistent
 
 module _ (p : Program) (small : p.sizes.volatile ≤ MOST_MEMORY) where
-  by_placed : (v : Visible) (n : ℕ) (core : cores.Core) (life : Life) → ArePlaced p v.trace → ArePlaced p (grown v.trace (event_in n v.memory (plan_by p core life)))
+  by_placed : (v : Visible) (n : ℕ) (core : cores.Core) (life : Life) → ArePlaced p v.trace → ArePlaced p (with_event v.trace (event_in n v.memory (plan_by p core life)))
   by_placed v n core Running all = event_placed p.sizes n v.memory (plan_of core p.code p.sizes) v.trace small (plan_data core p.code p.sizes) all
   by_placed v n core Halted all = all
   by_placed v n core (Trapped trap) all = all
 
-  in_placed : (v : Visible) (n : ℕ) (core : Option cores.Core) → ArePlaced p v.trace → ArePlaced p (grown v.trace (event_in n v.memory (plan_in p core)))
+  in_placed : (v : Visible) (n : ℕ) (core : Option cores.Core) → ArePlaced p v.trace → ArePlaced p (with_event v.trace (event_in n v.memory (plan_in p core)))
   in_placed v n None all = all
   in_placed v n (Some core) all = by_placed v n core core.life all
 

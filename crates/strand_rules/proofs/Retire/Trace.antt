@@ -9,18 +9,18 @@ use Rattle.strand_exec.specs.declared.planned.Plan.{Plan}
 use Rattle.strand_exec.specs.declared.planned.Plan.TheVariants.{Plain, Load, Store, Barrier, NewStrand, Join, Out, Halt, Trap}
 use Rattle.strand_events.specs.declared.event.Event.{Event}
 use Rattle.strand_events.specs.Trace.{core_of}
-use Rattle.strand_rules.specs.Visible.{Program, Visible, event_of, grown, plan_by, plan_in, next_plan, moved_by, moved_in, retire}
+use Rattle.strand_rules.specs.Visible.{Program, Visible, event_of, with_event, plan_by, plan_in, next_plan, moved_by, moved_in, retire}
 use Rattle.strand_rules.specs.Cycle.{event_in, next_event}
 
-moved_trace : (p : Program) (v : Visible) (n : ℕ) (core : cores.Core) (plan : Option Plan) → (moved_by p v n core plan).trace ≡ grown v.trace (event_in n v.memory plan)
+moved_trace : (p : Program) (v : Visible) (n : ℕ) (core : cores.Core) (plan : Option Plan) → (moved_by p v n core plan).trace ≡ with_event v.trace (event_in n v.memory plan)
 moved_trace p v n core None = refl
 moved_trace p v n core (Some _) = refl
 
-found_trace : (p : Program) (v : Visible) (n : ℕ) (core : Option cores.Core) → (moved_in p v n core).trace ≡ grown v.trace (event_in n v.memory (plan_in p core))
+found_trace : (p : Program) (v : Visible) (n : ℕ) (core : Option cores.Core) → (moved_in p v n core).trace ≡ with_event v.trace (event_in n v.memory (plan_in p core))
 found_trace p v n None = refl
 found_trace p v n (Some core) = moved_trace p v n core (plan_by p core core.life)
 
-pub retired_trace : (p : Program) (v : Visible) (n : ℕ) → (retire p v n).trace ≡ grown v.trace (next_event p v n)
+pub retired_trace : (p : Program) (v : Visible) (n : ℕ) → (retire p v n).trace ≡ with_event v.trace (next_event p v n)
 unfolding retire
 retired_trace p v n = found_trace p v n (slice_get v.cores n)
 

@@ -1,20 +1,9 @@
-use Rattle.std.proofs.Common.{◌∙◌, ℕ, List, ap, subst, sym}
-use Rattle.std.specs.Prelude.{Err}
-use Rattle.std.specs.declared.result.Result.{Result}
-use Rattle.std.proofs.lemmas.Result.{err_from_is_err_and}
-use Rattle.strand_app.specs.declared.file_sizes.TheConstants.{MOST_CRASH_BYTES}
-use Rattle.strand_app.specs.declared.fetching.OpenFault.{OpenFault}
 use Rattle.strand_app.specs.Contents.{crash_in}
-use Rattle.strand_app.specs.Fetching.{FetchesFile}
-use Rattle.strand_app.proofs.FetchesFile.{not_read, read, crash_long}
+use Rattle.strand_app.proofs.FetchesFile.{not_fetched, read, crash_long}
 use Rattle.strand_app.proofs.contents.fetch_crash.Goals as goal
 
 pub returns-in_err-bytes-clause-says : goal.returns-in_err-bytes-clause-says
-returns-in_err-bytes-clause-says g c =
-    let e = err_from_is_err_and c.from_residual.result c.from_residual.ensures.1 in
-    subst (λ (r : Result (List ℕ) OpenFault). FetchesFile 4 (crash_in c.args.image.now) (λ words. words) c.args.name.now (g.F.Files.seen c.args.files.now) (g.F.Files.seen c.fetch.new.files) r) (sym (e.1 ∙ ap Err e.2))
-    (not_read 4 (crash_in c.args.image.now) (λ words. words) c.args.name.now MOST_CRASH_BYTES (g.F.Files.seen c.args.files.now) (g.F.Files.seen c.fetch.new.files) c.in_err-bytes.field-0.0 (crash_long c.args.image.now) c.in_err-bytes.ensures)
+returns-in_err-bytes-clause-says g c = not_fetched 4 (crash_in c.args.image.now) (λ words. words) _ _ _ _ _ _ c.from_residual.ensures.1 (crash_long c.args.image.now) c.in_err-bytes.ensures
 
 pub returns-clause-says : goal.returns-clause-says
-returns-clause-says g c =
-    read 4 (crash_in c.args.image.now) (λ words. words) c.args.name.now MOST_CRASH_BYTES (g.F.Files.seen c.args.files.now) (g.F.Files.seen c.fetch.new.files) c.in_ok-bytes.bytes c.crash_of.result c.in_ok-bytes.ensures (rw c.deref.ensures.value at c.crash_of.ensures.says)
+returns-clause-says g c = read 4 (crash_in c.args.image.now) (λ words. words) _ _ _ _ c.in_ok-bytes.bytes _ c.in_ok-bytes.ensures (rw c.deref.ensures.value at c.crash_of.ensures.says)

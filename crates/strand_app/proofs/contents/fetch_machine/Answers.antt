@@ -1,21 +1,9 @@
-use Rattle.std.proofs.Common.{◌∙◌, ap, subst, sym}
-use Rattle.std.specs.Prelude.{Err}
-use Rattle.std.specs.declared.result.Result.{Result}
-use Rattle.std.proofs.lemmas.Result.{err_from_is_err_and}
-use Rattle.strand_app.specs.declared.file_sizes.TheConstants.{MOST_MACHINE_BYTES}
-use Rattle.strand_inputs.specs.Settings.{Settings}
-use Rattle.strand_app.specs.declared.fetching.OpenFault.{OpenFault}
 use Rattle.strand_app.specs.Contents.{machine_in}
-use Rattle.strand_app.specs.Fetching.{FetchesFile}
-use Rattle.strand_app.proofs.FetchesFile.{not_read, read, machine_long}
+use Rattle.strand_app.proofs.FetchesFile.{not_fetched, read, machine_long}
 use Rattle.strand_app.proofs.contents.fetch_machine.Goals as goal
 
 pub returns-in_err-bytes : goal.returns-in_err-bytes
-returns-in_err-bytes g c =
-    let e = err_from_is_err_and c.from_residual.result c.from_residual.ensures.1 in
-    subst (λ (r : Result (Settings) OpenFault). FetchesFile 1 (machine_in) (λ config. config) c.args.name.now (g.F.Files.seen c.args.files.now) (g.F.Files.seen c.fetch.new.files) r) (sym (e.1 ∙ ap Err e.2))
-    (not_read 1 (machine_in) (λ config. config) c.args.name.now MOST_MACHINE_BYTES (g.F.Files.seen c.args.files.now) (g.F.Files.seen c.fetch.new.files) c.in_err-bytes.field-0.0 (machine_long) c.in_err-bytes.ensures)
+returns-in_err-bytes g c = not_fetched 1 machine_in (λ config. config) _ _ _ _ _ _ c.from_residual.ensures.1 machine_long c.in_err-bytes.ensures
 
 pub returns : goal.returns
-returns g c =
-    read 1 (machine_in) (λ config. config) c.args.name.now MOST_MACHINE_BYTES (g.F.Files.seen c.args.files.now) (g.F.Files.seen c.fetch.new.files) c.in_ok-bytes.bytes c.machine_of.result c.in_ok-bytes.ensures (rw c.deref.ensures.value at c.machine_of.ensures)
+returns g c = read 1 machine_in (λ config. config) _ _ _ _ c.in_ok-bytes.bytes _ c.in_ok-bytes.ensures (rw c.deref.ensures.value at c.machine_of.ensures)

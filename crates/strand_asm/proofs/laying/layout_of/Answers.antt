@@ -3,12 +3,12 @@ use Rattle.std.specs.Prelude.{slice_range}
 use Rattle.std.proofs.lemmas.List.{drop_all}
 use Rattle.std.proofs.lemmas.Result.{err_from_is_err_and}
 use Rattle.strand_base.specs.Text.{lines_of}
-use Rattle.strand_asm.specs.Layout.{IsAtMost, laid, layout_of, nothing, over_lines}
+use Rattle.strand_asm.specs.Layout.{IsAtMost, laid, layout_of, empty_layout, over_lines}
 use Rattle.strand_asm.proofs.EachLine.{goes_on, stops, no_line}
 use Rattle.strand_asm.proofs.laying.layout_of.Goals as goal
 
-empty_is_small : IsAtMost 0 nothing
-unfolding nothing
+empty_is_small : IsAtMost 0 empty_layout
+unfolding empty_layout
 empty_is_small = record { cores_bound = omega arith; code_bound = omega arith; volatile_bound = omega arith; persistent_bound = omega arith }
 
 pub loop-span-init : goal.loop-span-init

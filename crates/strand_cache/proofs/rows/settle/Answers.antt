@@ -2,7 +2,7 @@
 use Rattle.std.proofs.Common.{refl, ap, ◌∙◌, subst}
 use Rattle.std.specs.Prelude.{not, ◌==◌}
 use Rattle.strand_exec.specs.Memory.{extents_of}
-use Rattle.strand_cache.specs.Lists.{without}
+use Rattle.strand_cache.specs.Lists.{without_line}
 use Rattle.strand_cache.specs.Copies.{row_lines, others, row_of}
 use Rattle.strand_cache.specs.Coherence.{Among}
 use Rattle.strand_cache.proofs.Memory.RowMembers.{among_filter}
@@ -13,7 +13,7 @@ use Rattle.strand_cache.proofs.rows.settle.Goals as goal
 pub returns-clause-takes : goal.returns-clause-takes
 returns-clause-takes c stores core ne =
     let lost = everywhere (others c.args.line) c.recall.new.rows c.drop_elsewhere.new.rows c.args.core refl c.drop_elsewhere.auto.rows c.drop_elsewhere.ensures.dropped in
-    ap row_lines (lost core ne) ∙ others_lines c.args.line (row_of c.recall.new.rows core) ∙ ap (without c.args.line) (c.recall.ensures.lines core)
+    ap row_lines (lost core ne) ∙ others_lines c.args.line (row_of c.recall.new.rows core) ∙ ap (without_line c.args.line) (c.recall.ensures.lines core)
 
 pub returns-clause-free : goal.returns-clause-free
 returns-clause-free c core h ne a =

@@ -2,7 +2,7 @@ use Rattle.std.proofs.Common.{◌≡◌, ℕ, List, Result, Ok, Err, IfOk, sym, 
 use Rattle.strand_image.specs.ImageSeen.{ImageSeen}
 use Rattle.strand_image.specs.Image.{image_of, image_bytes, GivesImage}
 use Rattle.strand_image.specs.declared.fault.ImageFault.{ImageFault}
-use Rattle.strand_image.proofs.Fields.{AreBytes}
+use Rattle.strand_base.proofs.LittleEndian.{AreBytes}
 use Rattle.strand_image.proofs.Spelling.{image_spelt}
 use Rattle.strand_image.proofs.reading.read_image.Goals as goal
 

@@ -3,7 +3,7 @@ use Rattle.strand_image.specs.ImageSeen.{image_seen}
 use Rattle.strand_image.specs.Image.{parts_at, entries_exist, GivesImage}
 use Rattle.strand_image.specs.declared.fault.ImageFault.{ImageFault}
 use Rattle.strand_image.specs.declared.fault.ImageFault.TheVariants.{Magic, Short, Long, Limit, Entry, OutOfMemory}
-use Rattle.strand_image.proofs.Fields.{length-numbers}
+use Rattle.strand_base.proofs.LittleEndian.{length-numbers}
 use Rattle.strand_image.proofs.reading.read_parts.Goals as goal
 
 gives_same : {X : Type 0} (result read : Result X ImageFault) → result ≡ read → GivesImage result read

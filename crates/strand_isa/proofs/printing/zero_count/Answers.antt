@@ -1,5 +1,6 @@
 use Rattle.std.specs.Prelude.{not, ◌==◌}
-use Rattle.strand_isa.proofs.ZeroCount.{first_place, no_place}
+use Rattle.strand_base.proofs.LinesAndWords.{first_place}
+use Rattle.strand_isa.proofs.ZeroCount.{no_place}
 use Rattle.strand_isa.proofs.printing.zero_count.Goals as goal
 
 pub returns-in-Some : goal.returns-in-Some

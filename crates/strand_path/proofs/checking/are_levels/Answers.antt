@@ -3,24 +3,18 @@ use Rattle.std.specs.Prelude.{slice_index, slice_index_or}
 use Rattle.strand_events.specs.Trace.{event_is, is_persist}
 use Rattle.strand_order.specs.declared.edge.Edge.{Edge}
 use Rattle.strand_order.specs.Edges.{edges_of}
-use Rattle.strand_order.proofs.Edges.List.{listed_edge, edge_at, ends_within}
+use Rattle.strand_order.proofs.Edges.List.{listed_edge, edge_at}
 use Rattle.strand_path.specs.Checked.{goes_up}
-use Rattle.strand_path.proofs.Check.Edges.{one_more, all_rise}
+use Rattle.strand_path.proofs.Check.Edges.{ends_at, one_more, all_rise}
 use Rattle.strand_path.proofs.checking.are_levels.Goals as goal
 
 pub goes_up-requires-clause-i : goal.goes_up-requires-clause-i
 goes_up-requires-clause-i c =
-    let mode = c.args.graph.now.mode in
-    let t = c.args.graph.now.events in
-    let at = edge_at mode t c.edges-edge-items.result.now c.edges-edge-items.ensures.edges c.loop-edge.edge-index (record { before = 0; after = 0 }) (omega (arith, c.loop-edge-test.true)) in
-    omega (arith, (ends_within mode t c.loop-edge.edge-index _ at).0, c.if-levels-events.false, ap length c.events.ensures.events)
+    omega (arith, (ends_at c.args.graph.now.mode c.args.graph.now.events _ c.edges-edge-items.ensures.edges c.loop-edge.edge-index (omega (arith, c.loop-edge-test.true))).0, c.if-levels-events.false, ap length c.events.ensures.events)
 
 pub goes_up-requires-clause-j : goal.goes_up-requires-clause-j
 goes_up-requires-clause-j c =
-    let mode = c.args.graph.now.mode in
-    let t = c.args.graph.now.events in
-    let at = edge_at mode t c.edges-edge-items.result.now c.edges-edge-items.ensures.edges c.loop-edge.edge-index (record { before = 0; after = 0 }) (omega (arith, c.loop-edge-test.true)) in
-    omega (arith, (ends_within mode t c.loop-edge.edge-index _ at).1, c.if-levels-events.false, ap length c.events.ensures.events)
+    omega (arith, (ends_at c.args.graph.now.mode c.args.graph.now.events _ c.edges-edge-items.ensures.edges c.loop-edge.edge-index (omega (arith, c.loop-edge-test.true))).1, c.if-levels-events.false, ap length c.events.ensures.events)
 
 pub returns-then-not-goes_up-clause-no : goal.returns-then-not-goes_up-clause-no
 returns-then-not-goes_up-clause-no c = λ a.

@@ -4,8 +4,9 @@ use Rattle.std.proofs.lemmas.List.{length-replicate, get_or-replicate}
 use Rattle.strand_order.specs.declared.edge.Edge.{Edge}
 use Rattle.strand_order.specs.Edges.{edges_of}
 use Rattle.strand_order.proofs.Edges.List.{listed_edge, edge_at, ends_within}
-use Rattle.strand_order.proofs.Paths.Path.{edge_less}
+use Rattle.strand_order.proofs.Paths.Steps.{edge_less}
 use Rattle.strand_path.specs.Building.{AreOwn, raised}
+use Rattle.strand_path.proofs.Check.Edges.{ends_at}
 use Rattle.strand_path.proofs.LongestPath.Levels.{raised_first, raised_levels, raised_supported}
 use Rattle.strand_path.specs.Tracing.{firsts_after, vias_after}
 use Rattle.strand_path.proofs.LongestPath.Links.{AreTraced, traced_first, traced_more, traced_linked, traced_firsts}
@@ -22,17 +23,11 @@ loop-edge-init c =
 
 pub follow-requires-clause-before : goal.follow-requires-clause-before
 follow-requires-clause-before c =
-    let mode = c.args.graph.now.mode in
-    let t = c.args.graph.now.events in
-    let at = edge_at mode t c.edges-edge-items.result.now c.edges-edge-items.ensures.edges c.loop-edge.edge-index (record { before = 0; after = 0 }) (omega (arith, c.loop-edge-test.true)) in
-    omega (arith, (ends_within mode t c.loop-edge.edge-index _ at).0, ap length c.events-events.ensures.events)
+    omega (arith, (ends_at c.args.graph.now.mode c.args.graph.now.events _ c.edges-edge-items.ensures.edges c.loop-edge.edge-index (omega (arith, c.loop-edge-test.true))).0, ap length c.events-events.ensures.events)
 
 pub follow-requires-clause-after : goal.follow-requires-clause-after
 follow-requires-clause-after c =
-    let mode = c.args.graph.now.mode in
-    let t = c.args.graph.now.events in
-    let at = edge_at mode t c.edges-edge-items.result.now c.edges-edge-items.ensures.edges c.loop-edge.edge-index (record { before = 0; after = 0 }) (omega (arith, c.loop-edge-test.true)) in
-    omega (arith, (ends_within mode t c.loop-edge.edge-index _ at).1, ap length c.events-events.ensures.events)
+    omega (arith, (ends_at c.args.graph.now.mode c.args.graph.now.events _ c.edges-edge-items.ensures.edges c.loop-edge.edge-index (omega (arith, c.loop-edge-test.true))).1, ap length c.events-events.ensures.events)
 
 pub follow-requires-clause-small : goal.follow-requires-clause-small
 follow-requires-clause-small c =
@@ -44,11 +39,7 @@ follow-requires-clause-small c =
 
 pub follow-requires-clause-small_before : goal.follow-requires-clause-small_before
 follow-requires-clause-small_before c =
-    let mode = c.args.graph.now.mode in
-    let t = c.args.graph.now.events in
-    let at = edge_at mode t c.edges-edge-items.result.now c.edges-edge-items.ensures.edges c.loop-edge.edge-index (record { before = 0; after = 0 }) (omega (arith, c.loop-edge-test.true)) in
-    let e : Edge = slice_index_or c.edges-edge-items.result.now c.loop-edge.edge-index (record { before = 0; after = 0 }) in
-    omega (arith, (ends_within mode t c.loop-edge.edge-index e at).0, c.events-events.ensures.small)
+    omega (arith, (ends_at c.args.graph.now.mode c.args.graph.now.events _ c.edges-edge-items.ensures.edges c.loop-edge.edge-index (omega (arith, c.loop-edge-test.true))).0, c.events-events.ensures.small)
 
 pub loop-edge-preserved : goal.loop-edge-preserved
 loop-edge-preserved c =

@@ -15,31 +15,32 @@ use Rattle.strand_events.proofs.Waits.Counts.{IsMet}
 use Rattle.strand_rules.proofs.Order.Sets.Invariant.{Ordered}
 
 -- the elements after one is removed
-pub removed_below : {X : Type 0} (xs : List X) (j i : ℕ) → i < j → slice_get (remove xs j) i ≡ slice_get xs i
+removed_below : {X : Type 0} (xs : List X) (j i : ℕ) → i < j → slice_get (remove xs j) i ≡ slice_get xs i
 removed_below [] zero i lt = refl
 removed_below [] (suc j) i lt = refl
 removed_below (x ∷ xs) zero i lt = absurd (omega arith)
 removed_below (x ∷ xs) (suc j) zero lt = refl
 removed_below (x ∷ xs) (suc j) (suc i) lt = removed_below xs j i (omega arith)
 
-pub removed_above : {X : Type 0} (xs : List X) (j i : ℕ) → j ≤ i → slice_get (remove xs j) i ≡ slice_get xs (suc i)
+removed_above : {X : Type 0} (xs : List X) (j i : ℕ) → j ≤ i → slice_get (remove xs j) i ≡ slice_get xs (suc i)
 removed_above [] zero i le = refl
 removed_above [] (suc j) i le = refl
 removed_above (x ∷ xs) zero i le = refl
 removed_above (x ∷ xs) (suc j) zero le = absurd (omega arith)
 removed_above (x ∷ xs) (suc j) (suc i) le = removed_above xs j i (omega arith)
 
-module _ (conflict : Conflict) (mode : Mode) (t : List Event) (dispatched : ℕ → ℕ) (buffered : Set) (flight : List ℕ) (durable : Set) (kept : Ordered conflict mode t dispatched buffered flight durable) (j p : ℕ) (at_j : slice_get flight j ≡ Some p) (alone : (h x : ℕ) → h < j → slice_get flight h ≡ Some x → word_at t x ≡ word_at t p → ⊥) where
+module _ (flight : List ℕ) (j : ℕ) where
   -- where a request that is left stood before
-  place : (i x : ℕ) → slice_get (remove flight j) i ≡ Some x → ((i < j) × (slice_get flight i ≡ Some x)) ⊎ ((j ≤ i) × (slice_get flight (suc i) ≡ Some x))
-  place i x at = elim (cases_lt i j) [
+  pub left_place : (i x : ℕ) → slice_get (remove flight j) i ≡ Some x → ((i < j) × (slice_get flight i ≡ Some x)) ⊎ ((j ≤ i) × (slice_get flight (suc i) ≡ Some x))
+  left_place i x at = elim (cases_lt i j) [
     | inl lt ↦ inl (lt, sym (removed_below flight j i lt) ∙ at)
     | inr ge ↦ inr (ge, sym (removed_above flight j i ge) ∙ at)
   ]
 
-  was_in_flight : (x : ℕ) → InFlight (remove flight j) x → InFlight flight x
-  was_in_flight x (i, at) = elim (place i x at) [ inl (lt, is) ↦ (i, is) | inr (ge, is) ↦ (suc i, is) ]
+  pub was_in_flight : (x : ℕ) → InFlight (remove flight j) x → InFlight flight x
+  was_in_flight x (i, at) = elim (left_place i x at) [ inl (lt, is) ↦ (i, is) | inr (ge, is) ↦ (suc i, is) ]
 
+module _ (conflict : Conflict) (mode : Mode) (t : List Event) (dispatched : ℕ → ℕ) (buffered : Set) (flight : List ℕ) (durable : Set) (kept : Ordered conflict mode t dispatched buffered flight durable) (j p : ℕ) (at_j : slice_get flight j ≡ Some p) (alone : (h x : ℕ) → h < j → slice_get flight h ≡ Some x → word_at t x ≡ word_at t p → ⊥) where
   still_in_flight : (x : ℕ) → (x ≡ p → ⊥) → InFlight flight x → InFlight (remove flight j) x
   still_in_flight x ne (zero, at) = elim (cases_eq 0 j) [
     | inl e ↦ absurd (ne (same_Some x p (sym at ∙ ap (slice_get flight) e ∙ at_j)))
@@ -55,7 +56,7 @@ module _ (conflict : Conflict) (mode : Mode) (t : List Event) (dispatched : ℕ 
 
   was_held : (x : ℕ) → IsInSomePart buffered (remove flight j) (with_ p durable) x → IsInSomePart buffered flight durable x
   was_held x (inl b) = inl b
-  was_held x (inr (inl f)) = inr (inl (was_in_flight x f))
+  was_held x (inr (inl f)) = inr (inl (was_in_flight flight j x f))
   was_held x (inr (inr d)) = elim (with_cases p durable x d) [ inl e ↦ inr (inl (j, at_j ∙ ap Some (sym e))) | inr old ↦ inr (inr old) ]
 
   still_held : (x : ℕ) → IsInSomePart buffered flight durable x → IsInSomePart buffered (remove flight j) (with_ p durable) x
@@ -64,7 +65,7 @@ module _ (conflict : Conflict) (mode : Mode) (t : List Event) (dispatched : ℕ 
   still_held x (inr (inr d)) = inr (inr (with_old p durable x d))
 
   was_sent : (q : ℕ) → Sent (remove flight j) (with_ p durable) q → Sent flight durable q
-  was_sent q (inl f) = inl (was_in_flight q f)
+  was_sent q (inl f) = inl (was_in_flight flight j q f)
   was_sent q (inr d) = elim (with_cases p durable q d) [ inl e ↦ inl (j, at_j ∙ ap Some (sym e)) | inr old ↦ inr old ]
 
   must_be_met : (b : ℕ) → (conflict ≡ Stall) ⊎ Sent (remove flight j) (with_ p durable) b → (conflict ≡ Stall) ⊎ Sent flight durable b
@@ -99,7 +100,7 @@ module _ (conflict : Conflict) (mode : Mode) (t : List Event) (dispatched : ℕ 
   ]
 
   in_flight' : (i x q : ℕ) → slice_get (remove flight j) i ≡ Some q → Older mode t x q → (with_ p durable x ≡ true) ⊎ ((h : ℕ) × (h < i) × (slice_get (remove flight j) h ≡ Some x))
-  in_flight' i x q at o = elim (place i q at) [
+  in_flight' i x q at o = elim (left_place flight j i q at) [
     | inl (lt, is) ↦ elim (kept.in_flight i x q is o) [ inl d ↦ inl (with_old p durable x d) | inr (h, less, there) ↦ moved i h x less there i (inl (refl, lt)) ]
     | inr (ge, is) ↦ elim (kept.in_flight (suc i) x q is o) [ inl d ↦ inl (with_old p durable x d) | inr (h, less, there) ↦ moved (suc i) h x less there i (inr (refl, ge)) ]
   ]

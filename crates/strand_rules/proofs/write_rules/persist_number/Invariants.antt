@@ -1,10 +1,9 @@
 use Rattle.std.proofs.Common.{◌≡◌, ◌≤◌}
-use Rattle.strand_base.specs.Counting.{count_below}
-use Rattle.strand_events.specs.Trace.{event_is, is_persist}
+use Rattle.strand_events.specs.Trace.{persist_number}
 use Rattle.strand_rules.proofs.write_rules.persist_number.Given as goal
 
 abbrev pub invariant-loop-k : goal.invariant-loop-k
 invariant-loop-k l = record {
-  counted : l.count ≡ count_below l.k (event_is is_persist l.events);
+  counted : l.count ≡ persist_number l.events l.k;
   small : l.count ≤ l.k;
 }

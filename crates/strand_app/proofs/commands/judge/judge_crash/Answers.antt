@@ -1,8 +1,7 @@
 use Rattle.std.proofs.Common.{ℕ, ◌++◌, [], ◌∷◌, subst}
-use Rattle.std.specs.Prelude.{Ok, Err}
+use Rattle.std.specs.Prelude.{Err}
 use Rattle.strand_app.specs.CommandView.{judge_rule_in}
 use Rattle.strand_app.specs.Commands.Judge.{Question, PutsVerdict, RefutesCrash, judge_reads}
-use Rattle.strand_app.specs.Files.{Opened}
 use Rattle.strand_app.specs.Judging.{question_of}
 use Rattle.strand_app.specs.Opening.{OpensTo, names_of}
 use Rattle.strand_app.proofs.Comes.{refused_comes, machine_comes}
@@ -10,13 +9,7 @@ use Rattle.strand_modules.specs.Seen.{bank_seen}
 use Rattle.strand_app.proofs.commands.judge.judge_crash.Goals as goal
 
 pub returns-in-Ok : goal.returns-in-Ok
-returns-in-Ok g c =
-    let before = g.F.Files.seen c.args.files.now in
-    let after = g.F.Files.seen c.open_question.new.files in
-    let names = names_of c.args.words ++ c.args.crash.now ∷ [] in
-    machine_comes Question (λ q. q.run) (λ q bank. PutsVerdict q) RefutesCrash names (judge_reads (bank_seen (λ z. (goal.PmModule-dyn g z).holds z.1) c.args.bank.now).size c.args.words.stop) before after (bank_seen (λ z. (goal.PmModule-dyn g z).holds z.1) c.args.bank.now) (bank_seen (λ z. (goal.PmModule-dyn g z).holds z.1) c.verdict_on_bank.new.bank) (question_of c.in-Ok.question)
-    c.verdict_on_bank.result
-    (subst (λ (size : ℕ). Opened names (judge_reads size c.args.words.stop) before after (Ok (question_of c.in-Ok.question))) c.words.ensures c.in-Ok.ensures.opens) c.verdict_on_bank.ensures
+returns-in-Ok g c = machine_comes Question (λ q. q.run) (λ q bank. PutsVerdict q) RefutesCrash _ _ _ _ _ _ _ _ (rw c.words.ensures at c.in-Ok.ensures.opens) c.verdict_on_bank.ensures
 
 pub returns-in-Err : goal.returns-in-Err
 returns-in-Err g c =

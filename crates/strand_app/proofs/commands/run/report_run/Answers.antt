@@ -1,21 +1,16 @@
 use Rattle.std.proofs.Common.{ℕ, subst}
-use Rattle.std.specs.Prelude.{Ok, Err}
+use Rattle.std.specs.Prelude.{Err}
 use Rattle.strand_run.specs.Inputs.{Inputs}
 use Rattle.strand_app.specs.CommandView.{run_rule_in}
 use Rattle.strand_app.specs.Commands.Run.{run_reads}
 use Rattle.strand_app.specs.Commands.Run.{PutsReport}
-use Rattle.strand_app.specs.Files.{Opened}
 use Rattle.strand_app.specs.Opening.{OpensTo, inputs_of, names_of}
 use Rattle.strand_app.proofs.Comes.{refused_comes, machine_comes}
 use Rattle.strand_modules.specs.Seen.{bank_seen}
 use Rattle.strand_app.proofs.commands.run.report_run.Goals as goal
 
 pub returns-in-Ok : goal.returns-in-Ok
-returns-in-Ok g c =
-    let before = g.F.Files.seen c.args.files.now in
-    let after = g.F.Files.seen c.open_run.new.files in
-    machine_comes Inputs (λ u. u) PutsReport (λ u text. ⊥) (names_of c.args.words) (run_reads (bank_seen (λ z. (goal.PmModule-dyn g z).holds z.1) c.args.bank.now).size c.args.words.stop) before after (bank_seen (λ z. (goal.PmModule-dyn g z).holds z.1) c.args.bank.now) (bank_seen (λ z. (goal.PmModule-dyn g z).holds z.1) c.report_on_bank.new.bank) (inputs_of c.in-Ok.setup) c.report_on_bank.result
-    (subst (λ (size : ℕ). Opened (names_of c.args.words) (run_reads size c.args.words.stop) before after (Ok (inputs_of c.in-Ok.setup))) c.words.ensures c.in-Ok.ensures.opens) c.report_on_bank.ensures
+returns-in-Ok g c = machine_comes Inputs (λ u. u) PutsReport (λ u text. ⊥) _ _ _ _ _ _ _ _ (rw c.words.ensures at c.in-Ok.ensures.opens) c.report_on_bank.ensures
 
 pub returns-in-Err : goal.returns-in-Err
 returns-in-Err g c =

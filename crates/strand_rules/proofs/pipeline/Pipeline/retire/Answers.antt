@@ -1,5 +1,5 @@
 use Rattle.std.proofs.Common.{◌<◌, arith, length, length-set, map, subst, sym, ap, ◌∙◌}
-use Rattle.strand_rules.specs.Visible.{grown}
+use Rattle.strand_rules.specs.Visible.{with_event}
 use Rattle.strand_rules.specs.Machine.{Machine, NextEffect, made_to}
 use Rattle.strand_events.specs.Order.{set_of}
 use Rattle.strand_events.specs.Trace.{persists_of}
@@ -35,7 +35,7 @@ invariant_of-self c =
       persisted = c.note.ensures.persisted
           ∙ ap (λ marks. persists_unmarked marks c.args.event) c.self.invariant.persisted
           ∙ sym (marks_grown m.state.now.trace c.args.event m.state.durable c.self.invariant.kept.durable)
-          ∙ sym (ap (λ marks. map (set_of marks) (persists_of (grown m.state.now.trace c.args.event))) c.note.ensures.durable)
+          ∙ sym (ap (λ marks. map (set_of marks) (persists_of (with_event m.state.now.trace c.args.event))) c.note.ensures.durable)
           ∙ sym (ap (λ t. map (set_of c.note.new.durable.items) (persists_of t)) c.note.ensures.events);
       room = c.note.ensures.room ∙ c.self.invariant.room;
       retired_room = omega (arith, c.push_reserved.ensures.capacity, c.self.invariant.retired_room);

@@ -2,10 +2,9 @@ use Rattle.std.proofs.Common.{◌≡◌, ◌<◌, ◌∙◌, arith, length, true
 use Rattle.std.specs.Prelude.{Some, slice_get, slice_set}
 use Rattle.std.proofs.lemmas.List.{length-map}
 use Rattle.std.proofs.lemmas.Option.{slice_get_within}
-use Rattle.strand_base.specs.Counting.{count_below}
 use Rattle.strand_base.proofs.BelowBound.{count_strict, list_length}
 use Rattle.strand_events.specs.Order.{set_of}
-use Rattle.strand_events.specs.Trace.{event_is, is_persist, persists_of}
+use Rattle.strand_events.specs.Trace.{event_is, is_persist, persist_number, persists_of}
 use Rattle.strand_rules.specs.Cycle.{write_after}
 use Rattle.strand_rules.specs.Machine.{Machine}
 use Rattle.strand_rules.specs.Kept.{seen}
@@ -20,7 +19,7 @@ index_mut-requires-2 c =
     let m = seen c.self.inside in
     let t = m.state.now.trace in
     let is : event_is is_persist t c.args.p ≡ true = persist_seen m _ c.self.view_is c.args.p c.requires.persist in
-    let number = c.requires.number ∙ ap (λ (m : Machine). count_below c.args.p (event_is is_persist m.state.now.trace)) (sym c.self.view_is) in
+    let number = c.requires.number ∙ ap (λ (m : Machine). persist_number m.state.now.trace c.args.p) (sym c.self.view_is) in
     omega (
       arith,
       number,
@@ -39,13 +38,13 @@ invariant_of-self c =
     let is : event_is is_persist t c.args.p ≡ true = persist_seen m _ c.self.view_is c.args.p c.requires.persist in
     let there : slice_get m.state.flight c.args.j ≡ Some c.args.p = request_seen m _ c.self.view_is c.args.j c.args.p c.requires.request in
     let room : m.made < m.steps = room_seen m _ c.self.view_is c.requires.room in
-    let number = c.requires.number ∙ ap (λ (m : Machine). count_below c.args.p (event_is is_persist m.state.now.trace)) (sym c.self.view_is) in
+    let number = c.requires.number ∙ ap (λ (m : Machine). persist_number m.state.now.trace c.args.p) (sym c.self.view_is) in
     let inside = event_within is_persist t c.args.p is in
     let marked = marks_set (length t) (event_is is_persist t) m.state.durable c.args.p true inside is (omega (arith, inside, held_all.kept.durable)) in
     record {
       kept = rw (c.remove.ensures.items) (kept_write m c.args.j c.args.p held_all.kept room (slice_get_within m.state.flight c.args.j c.args.p there));
       reached = rw (c.remove.ensures.items) (reached_seen m _ c.self.view_is (λ m. write_after m.state c.args.j (Some c.args.p)) c.requires.reached);
-      persisted = ap (λ k. slice_set c.self.inside.persisted.items k true) number ∙ ap (λ marks. slice_set marks (count_below c.args.p (event_is is_persist t)) true) held_all.persisted ∙ sym marked;
+      persisted = ap (λ k. slice_set c.self.inside.persisted.items k true) number ∙ ap (λ marks. slice_set marks (persist_number t c.args.p) true) held_all.persisted ∙ sym marked;
       room = held_all.room;
       retired_room = held_all.retired_room;
       buffered_room = held_all.buffered_room;

@@ -1,6 +1,6 @@
 use Rattle.std.proofs.Common.{◌<◌, length, arith, sym, subst, ap, ◌∙◌}
 use Rattle.std.specs.Prelude.{vec_capacity, vec_len}
-use Rattle.strand_rules.specs.Visible.{grown}
+use Rattle.strand_rules.specs.Visible.{with_event}
 use Rattle.strand_rules.specs.Cycle.{core_after, IsReached}
 use Rattle.strand_rules.specs.Machine.{Machine, made_to}
 use Rattle.strand_rules.specs.Next.{AreKeptWaits, IsNextWait}
@@ -37,7 +37,7 @@ invariant_of-self c =
       extents = c.act-loaded.ensures.extents ∙ c.self.invariant.extents ∙ sym (ap (λ (m : Machine). m.program.sizes) c.retire.ensures);
       reached = subst (λ (m : Machine). IsReached m.config m.program m.state) (sym left) reached;
       waits = subst (λ (new : Machine). AreKeptWaits new.config.conflict new.config.mode new.state.now.trace c.keep_wait.new.waits.items) (sym c.retire.ensures)
-          (subst (AreKeptWaits m.pipeline.config.conflict m.pipeline.config.mode (grown m.pipeline.state.now.trace c.args.event)) (sym c.keep_wait.ensures.waits)
+          (subst (AreKeptWaits m.pipeline.config.conflict m.pipeline.config.mode (with_event m.pipeline.state.now.trace c.args.event)) (sym c.keep_wait.ensures.waits)
           (kept_more m.pipeline.config.conflict m.pipeline.config.mode m.pipeline.state.now.trace m.waits.items c.args.event c.next_wait-wait.result c.self.invariant.waits
           (subst (λ (m : Machine). IsNextWait m.config.conflict m.config.mode m.state.now.trace c.args.event c.next_wait-wait.result) (sym c.self.view_is) c.next_wait-wait.ensures)));
       waits_room = omega (arith, c.keep_wait.ensures.room, c.self.invariant.waits_room, ap (λ (m : Machine). m.steps) c.retire.ensures);

@@ -1,6 +1,0 @@
-use Rattle.std.proofs.Common.{◌≡◌}
-use Rattle.strand_image.specs.Image.{u32s}
-use Rattle.strand_image.proofs.numbers.read_u32s.Given as goal
-
-abbrev pub invariant-loop-k : goal.invariant-loop-k
-invariant-loop-k l = l.numbers.items ≡ u32s l.k l.bytes

@@ -1,6 +1,0 @@
-use Rattle.std.proofs.Common.{◌≡◌}
-use Rattle.strand_image.specs.Image.{u64s}
-use Rattle.strand_image.proofs.numbers.read_u64s.Given as goal
-
-abbrev pub invariant-loop-k : goal.invariant-loop-k
-invariant-loop-k l = l.numbers.items ≡ u64s l.k l.bytes
