@@ -1,4 +1,6 @@
-"""How `./strand` proves and builds the program, tried with a toolchain that only says what rt says (tools/check-launch)."""
+"""How `./strand` answers before there is a program, and proves and builds it, tried with a toolchain that only says what rt says
+(tools/check-launch)."""
+import fcntl
 import json
 import os
 import re
@@ -7,12 +9,18 @@ import subprocess
 
 TOP = os.path.dirname(os.path.dirname(os.path.abspath(__file__)))
 # The toolchain: it notes where and with which words it is called, and of each crate says how its check ends, by ENDS. What it
-# builds puts the first example's report.
+# builds puts the first example's report, and `rt try` puts TRIED, or has no answer where that is empty.
 TOOLCHAIN = r"""#!/usr/bin/env python3
 import json, os, sys
+if sys.argv[1] == "version":
+    sys.exit(print("a toolchain"))
 with open(os.environ["CALLS"], "a") as calls:
     print(os.path.basename(os.getcwd()), *sys.argv[1:], file=calls)
 ends, first = json.loads(os.environ["ENDS"]), os.environ["FIRST"]
+if sys.argv[1] == "try":
+    print(os.environ["TRIED"], end="")
+    print("run=ended status=0 runners=1 proved=no" if os.environ["TRIED"] else "run=none proved=no", file=sys.stderr)
+    sys.exit(not os.environ["TRIED"])
 if sys.argv[1] == "run":
     os.makedirs("out", exist_ok=True)
     with open("out/strand", "w") as program:
@@ -60,19 +68,20 @@ class Repository:
         self.first = os.path.join(self.folder, "examples", "first")
 
     def edit(self, crate):
-        """Makes a source newer than the program."""
+        """Makes a source another one than the program's."""
         with open(os.path.join(self.folder, "crates", crate, "src", "lib.rt"), "a", encoding="ascii") as file:
             file.write("\n")
 
-    def run(self, ends, path=None):
+    def run(self, ends, path=None, choice="yes", tried=None, words=None):
         """One call of `./strand` where the checks of the crates end so: what it puts, its status, what it says on standard error,
         and how it called the toolchain."""
         given = {"CALLS": self.calls, "FIRST": os.path.join(self.first, "printed"), "ENDS": json.dumps(ends)}
-        given["PATH"] = path or f"{self.tools}:{os.environ['PATH']}"
-        words = [os.path.join(self.first, name) for name in ("machine", "image", "schedule")]
+        given["TRIED"] = self.report().decode() if tried is None else tried
+        given["PATH"], given["STRAND_BUILD"] = path or f"{self.tools}:{os.environ['PATH']}", choice
+        words = words or ["run", *(os.path.join(self.first, name) for name in ("machine", "image", "schedule")), "end"]
         with open(self.calls, "w", encoding="ascii"):
             pass
-        done = subprocess.run([os.path.join(self.folder, "strand"), "run", *words, "end"], stdin=subprocess.DEVNULL,
+        done = subprocess.run([os.path.join(self.folder, "strand"), *words], stdin=subprocess.DEVNULL,
                               stdout=subprocess.PIPE, stderr=subprocess.PIPE, env={**os.environ, **given}, timeout=60)
         with open(self.calls, encoding="ascii") as file:
             return done.stdout, done.returncode, done.stderr.decode(), file.read().splitlines()
@@ -94,45 +103,69 @@ def fault_of_progress(below, said, jobs):
     return ""
 
 
+TRY = r"strand try (--data \S+ ){3}-- run file1 file2 file3 end"
+UNPROVED, SAME = "this run was not proved; ", "gives the same answer"
+
+
+def due(check, name, got, put, status, calls, *said):
+    """A call puts this and ends so, behind these calls of the toolchain, and says all this on standard error."""
+    is_right = got[:2] == (put, status) and re.fullmatch(calls, "\n".join(got[3])) and all(word in got[2] for word in said)
+    check.note(name, "" if is_right else f"status {got[1]}, {got[0]!r}, {got[3]}, {got[2]!r}")
+
+
 def try_good(check, repository):
-    """The program is proved, built once, and built again behind an edit."""
-    ends = {crate: "ok" for crate in repository.below}
+    """An answer before the proof, and the program proved, built once, and built again behind an edit."""
+    ends, report = {crate: "ok" for crate in repository.below}, repository.report()
+    for words, status, first in (["--help"], 0, b"strand: which"), (["--version"], 0, b"strand, "), (["list"], 2, b"fault words\n"):
+        put, ended, said, calls = repository.run(ends, words=words)
+        is_right = ended == status and put.startswith(first) and not calls
+        check.note(f"{words} before a build", "" if is_right else f"status {ended}, {put!r}, {said!r}, {calls}")
+    due(check, "an answer alone", repository.run(ends, choice="no"), report, 0, TRY, UNPROVED)
+    made = r"strand all check --jobs [1-9]\d*\nstrand run -- run \S+ \S+ \S+ end"
     for name in ("a first build", "a build behind an edit"):
-        put, status, said, calls = repository.run(ends)
-        check.note(name, "" if put == repository.report() and status == 0 else f"status {status}, {put!r}, {said!r}")
-        made = re.fullmatch(r"strand all check --jobs ([1-9]\d*)\nstrand run -- run \S+ \S+ \S+ end", "\n".join(calls))
-        fault = fault_of_progress(repository.below, said, int(made[1])) if made else f"calls {calls}"
+        got = repository.run(ends)
+        due(check, name, got, report, 0, f"{TRY}\n{made}", UNPROVED, SAME)
+        fault = fault_of_progress(repository.below, got[2], int(re.search(r"--jobs (\d+)", "\n".join(got[3]))[1]))
         check.note(f"progress of {name}", fault)
-        put, status, said, calls = repository.run(ends)
-        is_right = put == repository.report() and status == 0 and not said and not calls
-        check.note(f"{name}, and no other", "" if is_right else f"status {status}, {said!r}, {calls}")
+        got = repository.run(ends)
+        check.note(f"{name}, and no other", "" if got == (report, 0, "", []) else f"{got}")
         repository.edit("strand_events")
+    due(check, "the program alone", repository.run(ends, choice="only"), b"", 0, made)
+    due(check, "the program alone, and no other", repository.run(ends, choice="only"), b"", 0, "")
+
+
+def try_differing(check, repository):
+    """A proved answer that differs, none before the proof, and another call that is proving."""
+    ends, report = {crate: "ok" for crate in repository.below}, repository.report()
+    got = repository.run(ends, tried="stop 12\n")
+    due(check, "an answer that differs", got, b"stop 12\n", 71, f"{TRY}\n.*\n.*", UNPROVED, "differing/proved")
+    repository.edit("strand_events")
+    due(check, "no answer before the proof", repository.run(ends, tried=""), report, 0, f"{TRY}\n.*\n.*",
+        "no answer without a proof")
+    repository.edit("strand_events")
+    with open(os.path.join(repository.folder, "build", "lock"), "w", encoding="ascii") as lock:
+        fcntl.flock(lock, fcntl.LOCK_EX)
+        due(check, "beside another call", repository.run(ends), report, 0, TRY, UNPROVED, "by another call")
 
 
 def try_bad(check, repository):
-    """A crate that isn't proved, a check that is killed, a toolchain that stops at once, and none."""
-    broken = "strand_events"
+    """A crate that isn't proved, a check that is killed, a toolchain that stops at once, none, and a choice that is none."""
+    broken, report = "strand_events", repository.report()
     above = [crate for crate, below in repository.below.items() if broken in below]
     ends = {crate: f"not run, since {broken} failed" if crate in above else "ok" for crate in repository.below}
-    put, status, said, calls = repository.run({**ends, broken: "failed (1)"})
-    due = (f"strand: {broken} is not proved.", f"fn {broken}::f: failed (1)\n", f"stand on it: {', '.join(above)}\n",
-           f"strand: {len(ends) - len(above) - 1} of {len(ends)} crates are proved;")
-    is_right = status == 71 and not put and len(calls) == 1 and all(line in said for line in due)
-    check.note("a crate that isn't proved", "" if is_right else f"status {status}, {calls}, {said!r}")
-    put, status, said, calls = repository.run({})
-    is_right = status == 71 and not put and len(calls) == 1 and "rt: a word before the first crate\n" in said
-    check.note("a toolchain that stops", "" if is_right else f"status {status}, {calls}, {said!r}")
-    for tool in ("dirname", "find", "head"):
+    due(check, "a crate that isn't proved", repository.run({**ends, broken: "failed (1)"}), report, 71, f"{TRY}\n.*",
+        f"strand: {broken} is not proved.", f"fn {broken}::f: failed (1)\n", f"stand on it: {', '.join(above)}\n",
+        f"strand: {len(ends) - len(above) - 1} of {len(ends)} crates are proved;")
+    due(check, "a toolchain that stops", repository.run({}), report, 71, f"{TRY}\n.*", "rt: a word before the first crate\n")
+    due(check, "a choice that is none", repository.run({}, choice="perhaps"), b"", 71, "", "STRAND_BUILD is")
+    for tool in ("dirname", "sh", "env", "python3"):
         os.symlink(shutil.which(tool), os.path.join(repository.folder, tool))
-    _, status, said, calls = repository.run({}, path=repository.folder)
-    check.note("no toolchain", "" if status == 70 and not calls and "no 'rt'" in said else f"status {status}, {calls}, {said!r}")
-    put, status, said, calls = repository.run({**ends, broken: "failed (-9)"})
-    is_right = status == 0 and put == repository.report() and len(calls) == 2 and f"{broken} was killed" in said
-    check.note("a check that is killed", "" if is_right else f"status {status}, {calls}, {said!r}")
+    due(check, "no toolchain", repository.run({}, path=repository.folder), b"", 70, "", "no 'rt'")
+    got = repository.run({**ends, broken: "failed (-9)"})
+    due(check, "a check that is killed", got, report, 0, f"{TRY}\n.*\n.*", f"{broken} was killed", SAME)
 
 
 def try_builds(check, folder):
-    """How `./strand` builds, in this folder."""
-    repository = Repository(folder)
-    try_bad(check, repository)
-    try_good(check, Repository(os.path.join(folder, "again")))
+    """How `./strand` answers and builds, in this folder."""
+    for name, tried in (("bad", try_bad), ("good", try_good), ("differing", try_differing)):
+        tried(check, Repository(os.path.join(folder, name)))
