@@ -56,7 +56,7 @@ def jump_back(words):
 
 
 def image(entries, code, volatile, persistent):
-    return formats.write_image(formats.Image(entries, code, volatile, persistent))
+    return formats.write_image(formats.Image(entries, code, volatile, persistent, ()))
 
 
 def machine(mode, conflict="stall"):

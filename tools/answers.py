@@ -1,6 +1,6 @@
 """What the program `strand` has to answer to words and files, by docs/program.md and docs/FORMATS.md.
 
-Where a file is refused, and for `asm`, `list`, `gen-image` and `gen-schedule`, that is the whole text. Of a report it is all lines but
+Where a file is refused, and for `asm`, `list`, `upgrade`, `gen-image` and `gen-schedule`, that is the whole text. Of a report it is all lines but
 `path`: what the cores did and saw, the bubbles, what the modules hold, the durable persists, and the caches. That line is compared with
 its form alone, and so are a trace and a verdict. It is outside of what is proved.
 """
@@ -179,7 +179,7 @@ def is_command(words, commands):
     if command in formats.GENERATED:
         return len(words) == 3 and None not in map(formats.number_of, words[1:])
     files = formats.FILES[command]
-    if command in ("asm", "list"):
+    if command in ("asm", "list", "upgrade"):
         return len(words) == 2
     return len(words) == len(files) + 2 and (words[4] == b"end" or formats.number_of(words[4]) is not None)
 
@@ -203,6 +203,8 @@ def answer(words, fetch, commands):
             return Answer(fault.status(), fault.line(at))
     if command == "asm":
         return Answer(0, formats.write_image(found["text"]))
+    if command == "upgrade":
+        return Answer(0, formats.write_image(found["image"]))
     if command == "list":
         return Answer(0, assembler.listing(found["image"]))
     return of_run(command, found, words[4])

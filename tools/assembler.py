@@ -74,7 +74,7 @@ def operand_of(form, word):
     number = number_of(word)
     if form == "l" or (form == "t" and number is None):
         return word if is_name(word) else "badtoken" if form == "l" else "badnumber"
-    return "badnumber" if number is None or (form == "s" and not 0 <= number <= 131_072) else number
+    return "badnumber" if number is None or (form == "s" and not 0 <= number <= 262_144) else number
 
 
 def read_line(line):
@@ -83,6 +83,8 @@ def read_line(line):
     if re.search(rb"[^ \t!-~]", line) or b":" in rest or (colon and not is_name(label.lstrip(b" \t"))):
         return "badtoken"
     label, rest = (label.lstrip(b" \t"), rest) if colon else (None, line)
+    if label is not None and len(label) > 64:
+        return "longname"
     rest = rest.strip(b" \t")
     if not rest:
         return Line(label, None, ())
@@ -222,7 +224,7 @@ def code_of(draft, at, before, name, operands):
 def assemble(data):
     """The image of a text, or its first fault."""
     draft = Draft(data)
-    image = Image([], [], [], [])
+    image = Image([], [], [], [], [])
     data_words = {"volatile": image.volatile, "persist": image.persistent}
     for at, section, before, line in draft.lines:
         name, operands = line.first, line.operands

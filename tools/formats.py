@@ -9,18 +9,25 @@ import struct
 from collections import namedtuple
 
 MOST_STEPS = 200_000
-BYTES = {"machine": 4_096, "image": 4_194_304, "schedule": 4_194_304, "text": 4_194_304, "crash": 1_048_576}
-FILES = {"asm": ("text",), "list": ("image",), "run": ("machine", "image", "schedule"), "trace": ("machine", "image", "schedule"),
+BYTES = {"machine": 4_096, "image": 8_388_608, "schedule": 16_777_216, "text": 16_777_216, "crash": 2_097_152}
+FILES = {"asm": ("text",), "list": ("image",), "upgrade": ("image",),
+         "run": ("machine", "image", "schedule"), "trace": ("machine", "image", "schedule"),
          "judge": ("machine", "image", "schedule", "crash")}
 GENERATED = ("gen", "gen-image", "gen-schedule")  # these take a seed and a size
 CHOICES = {b"mode": (b"strict", b"epoch", b"strand"), b"conflict": (b"stall", b"tag")}
 SIZES = {b"queue": 64, b"buffers": 8, b"ring": 64, b"flight": 64, b"sets": 64, b"ways": 8}
 KEYS = (b"mode", *SIZES)  # those that each machine file gives
-QUANTITIES = (("cores", 1, 4), ("code", 1, 65_536), ("volatile", 0, 131_072), ("persistent", 1, 131_072))
+# What an image file says how many there are of, with the least and the most, by the first bytes of each version.
+FIRST_QUANTITIES = (("cores", 1, 4), ("code", 1, 65_536), ("volatile", 0, 131_072), ("persistent", 1, 131_072))
+QUANTITIES = (("cores", 1, 8), ("code", 1, 131_072), ("volatile", 0, 262_144), ("persistent", 1, 262_144), ("symbols", 0, 16_384),
+              ("names", 0, 1_146_880))
+VERSIONS = {b"STRANDP1": FIRST_QUANTITIES, b"STRANDP2": QUANTITIES}
+LABEL = re.compile(rb"[A-Za-z_][A-Za-z0-9_]{0,63}")
 STEP_WORDS = {b"c": 1, b"d": 1, b"s": 3, b"w": 1}
 PLACES = 64  # of a buffer or in flight: J is below this
 
-Image = namedtuple("Image", "entries code volatile persistent")
+Image = namedtuple("Image", "entries code volatile persistent symbols")
+Symbol = namedtuple("Symbol", "region place name")  # the region is 0, 1 or 2: code, volatile or persistent words
 
 
 class Refused(Exception):
@@ -116,30 +123,66 @@ def steps_in(schedule):
     return sum(times for _, _, times in schedule)
 
 
-def read_image(data):
+def version_of(data):
+    """The version that a file's first bytes name, and the quantities behind them."""
     if len(data) < 24:
         raise Refused("input", "short", 24, len(data))
-    if data[:8] != b"STRANDP1":
+    if data[:8] not in VERSIONS:
         raise Refused("input", "magic")
-    sizes = struct.unpack("<4I", data[8:24])
-    for (name, least, most), size in zip(QUANTITIES, sizes):
+    quantities = VERSIONS[data[:8]]
+    head = 8 + 4 * len(quantities)
+    if len(data) < head:
+        raise Refused("input", "short", head, len(data))
+    return quantities, struct.unpack(f"<{len(quantities)}I", data[8:head])
+
+
+def read_symbols(part, count, words):
+    """The symbols that these bytes spell, in sections of so many words, with nothing behind them."""
+    symbols, names, at = [], set(), 0
+    for number in range(count):
+        head = part[at:at + 6]
+        region, place, length = struct.unpack("<BIB", head) if len(head) == 6 else (3, 0, 0)
+        name = part[at + 6:at + 6 + length]
+        symbol = Symbol(region, place, name)
+        if region > 2 or len(name) < length or not LABEL.fullmatch(name) or place > words[region] or name in names or \
+                (symbols and symbol <= symbols[-1]):
+            raise Refused("input", "symbol", number)
+        symbols.append(symbol)
+        names.add(name)
+        at += 6 + length
+    if at < len(part):
+        raise Refused("input", "symbol", count)
+    return tuple(symbols)
+
+
+def read_image(data):
+    quantities, sizes = version_of(data)
+    for (name, least, most), size in zip(quantities, sizes):
         if not least <= size <= most:
             raise Refused("limit", name, size)
-    cores, code, volatile, persistent = sizes
-    need = 24 + 4 * cores + 4 * code + 8 * volatile + 8 * persistent
-    if len(data) != need:
-        raise Refused("input", "short" if len(data) < need else "long", need, len(data))
-    parts = struct.unpack(f"<{cores}I{code}I{volatile}Q{persistent}Q", data[24:])
+    cores, code, volatile, persistent, count, names = (*sizes, 0, 0)[:6]
+    words = 4 * cores + 4 * code + 8 * volatile + 8 * persistent
+    head = 8 + 4 * len(quantities)
+    if len(data) != head + words + names:
+        raise Refused("input", "short" if len(data) < head + words + names else "long", head + words + names, len(data))
+    parts = struct.unpack(f"<{cores}I{code}I{volatile}Q{persistent}Q", data[head:head + words])
     entries, rest = parts[:cores], parts[cores:]
     for core, entry in enumerate(entries):
         if entry >= code:
             raise Refused("input", "entry", core, entry)
-    return Image(entries, rest[:code], rest[code:code + volatile], rest[code + volatile:])
+    symbols = read_symbols(data[head + words:], count, (code, volatile, persistent))
+    return Image(entries, rest[:code], rest[code:code + volatile], rest[code + volatile:], symbols)
+
+
+def symbol_bytes(symbol):
+    return struct.pack("<BIB", symbol.region, symbol.place, len(symbol.name)) + symbol.name
 
 
 def write_image(image):
-    sizes = [len(part) for part in image]
-    return b"STRANDP1" + struct.pack("<4I{}I{}I{}Q{}Q".format(*sizes), *sizes, *itertools.chain(*image))
+    """The image in version 2."""
+    lists, names = image[:4], b"".join(map(symbol_bytes, image.symbols))
+    sizes = [*map(len, image), len(names)]
+    return b"STRANDP2" + struct.pack("<6I{}I{}I{}Q{}Q".format(*map(len, lists)), *sizes, *itertools.chain(*lists)) + names
 
 
 def read_crash(data, words):

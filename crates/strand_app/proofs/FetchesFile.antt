@@ -5,7 +5,7 @@ use Rattle.std.specs.declared.alloc.Global.{Global}
 use Rattle.std.specs.declared.result.Result.{Result}
 use Rattle.std.specs.declared.vec.Vec.{Vec}
 use Rattle.std.proofs.lemmas.Bool.{lt-ltb, le-ltb}
-use Rattle.strand_app.specs.declared.file_sizes.TheConstants.{MOST_FILE_BYTES, MOST_MACHINE_BYTES, MOST_CRASH_BYTES}
+use Rattle.strand_app.specs.declared.file_sizes.TheConstants.{MOST_FILE_BYTES, MOST_IMAGE_BYTES, MOST_MACHINE_BYTES, MOST_CRASH_BYTES}
 use Rattle.strand_asm.specs.Layout.{GivesAssembly}
 use Rattle.strand_asm.specs.declared.fault.AsmFault.{AsmFault}
 use Rattle.strand_asm.specs.declared.fault.AsmFault.TheVariants as asm
@@ -95,9 +95,9 @@ pub text_long : (bytes : List ℕ) → MOST_FILE_BYTES < length bytes → text_i
 unfolding text_in
 text_long bytes many = long MOST_FILE_BYTES Text bytes _ many
 
-pub image_long : (bytes : List ℕ) → MOST_FILE_BYTES < length bytes → image_in bytes ≡ Err (TooLong MOST_FILE_BYTES)
+pub image_long : (bytes : List ℕ) → MOST_IMAGE_BYTES < length bytes → image_in bytes ≡ Err (TooLong MOST_IMAGE_BYTES)
 unfolding image_in
-image_long bytes many = long MOST_FILE_BYTES Image bytes _ many
+image_long bytes many = long MOST_IMAGE_BYTES Image bytes _ many
 
 pub machine_long : (bytes : List ℕ) → MOST_MACHINE_BYTES < length bytes → machine_in bytes ≡ Err (TooLong MOST_MACHINE_BYTES)
 unfolding machine_in

@@ -18,7 +18,7 @@ use Rattle.strand_run.proofs.LeavesAllowed.{leaves_allowed, may_leave_allowed}
 use Rattle.strand_app.specs.declared.status.Status.{Status}
 use Rattle.strand_app.specs.declared.status.Status.TheVariants as status
 use Rattle.strand_app.specs.Causes.{EndsWith, TellsRefusal}
-use Rattle.strand_app.specs.Command.{Command, asm, list, run, judge, trace, gen, gen_image, gen_schedule}
+use Rattle.strand_app.specs.Command.{Command, asm, list, upgrade, run, judge, trace, gen, gen_image, gen_schedule}
 use Rattle.strand_app.specs.Commands.Gen.{PutsGen, PutsSummary, RefutesHeld, gen_reads, gen_rule}
 use Rattle.strand_app.specs.Commands.Judge.{Question, PutsVerdict, RefutesCrash, verdict_status}
 use Rattle.strand_app.specs.Commands.Run.{PutsReport}
@@ -173,6 +173,7 @@ pub sound_of : (command : Option Command) (before : BankSeen) → Sound (rule_of
 sound_of None before = no_command_sound before _ refl
 sound_of (Some (asm text)) before = still_sound _ _ _ _ before _
 sound_of (Some (list image)) before = still_sound _ _ _ _ before _
+sound_of (Some (upgrade image)) before = still_sound _ _ _ _ before _
 sound_of (Some (run machine image schedule stop)) before = machine_sound Inputs (λ u. u) PutsReport (λ u t. ⊥) _ _ before _ (λ u. report_meant u before)
 sound_of (Some (judge machine image schedule stop crash)) before = machine_sound Question (λ q. q.run) (λ q bank. PutsVerdict q) RefutesCrash _ _ before _ verdict_meant
 sound_of (Some (trace machine image schedule stop)) before = machine_sound Inputs (λ u. u) PutsTrace (λ u t. ⊥) _ _ before _ (λ u. trace_meant u before)

@@ -6,7 +6,7 @@ use Rattle.strand_modules.specs.Bank.{BankSeen}
 use Rattle.strand_app.specs.declared.command.Command.{Command as CodeCommand}
 use Rattle.strand_app.specs.declared.command.Command.TheVariants as code
 use Rattle.strand_app.specs.declared.command.RunWords.{RunWords}
-use Rattle.strand_app.specs.Command.{Command, command_of, asm, list, run, judge, trace, gen, gen_image, gen_schedule}
+use Rattle.strand_app.specs.Command.{Command, command_of, asm, list, upgrade, run, judge, trace, gen, gen_image, gen_schedule}
 use Rattle.strand_app.specs.Commands.Judge.{judge_rule}
 use Rattle.strand_app.specs.Commands.Run.{run_rule}
 use Rattle.strand_app.specs.Commands.Trace.{trace_rule}
@@ -16,6 +16,7 @@ use Rattle.strand_app.specs.RuleOf.{rule_of}
 abbrev pub view : CodeCommand → Command
 view (code.Asm text) = asm text.now
 view (code.List image) = list image.now
+view (code.Upgrade image) = upgrade image.now
 view (code.Run words) = run words.machine.now words.image.now words.schedule.now words.stop
 view (code.Judge words crash) = judge words.machine.now words.image.now words.schedule.now words.stop crash.now
 view (code.Trace words) = trace words.machine.now words.image.now words.schedule.now words.stop

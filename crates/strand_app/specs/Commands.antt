@@ -6,3 +6,4 @@ pub mod Trace
 pub mod Gen
 pub mod GenImage
 pub mod GenSchedule
+pub mod Upgrade

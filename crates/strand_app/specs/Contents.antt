@@ -1,7 +1,7 @@
 -- What one file says, by its rule, or why its content is refused.
 use Rattle.std.specs.Prelude.{ℕ, List, length, nat_lt, Ok, Err, if◌then◌else◌}
 use Rattle.std.specs.declared.result.Result.{Result}
-use Rattle.strand_app.specs.declared.file_sizes.TheConstants.{MOST_FILE_BYTES, MOST_MACHINE_BYTES, MOST_CRASH_BYTES}
+use Rattle.strand_app.specs.declared.file_sizes.TheConstants.{MOST_FILE_BYTES, MOST_IMAGE_BYTES, MOST_MACHINE_BYTES, MOST_CRASH_BYTES}
 use Rattle.strand_asm.specs.Assemble.{assembled}
 use Rattle.strand_image.specs.Image.{image_of}
 use Rattle.strand_image.specs.ImageSeen.{ImageSeen}
@@ -26,7 +26,7 @@ unfoldable pub text_in : List ℕ → Result ImageSeen ContentFault
 text_in bytes = length_limited MOST_FILE_BYTES Text bytes (assembled bytes)
 
 unfoldable pub image_in : List ℕ → Result ImageSeen ContentFault
-image_in bytes = length_limited MOST_FILE_BYTES Image bytes (image_of bytes)
+image_in bytes = length_limited MOST_IMAGE_BYTES Image bytes (image_of bytes)
 
 unfoldable pub machine_in : List ℕ → Result Settings ContentFault
 machine_in bytes = length_limited MOST_MACHINE_BYTES Input bytes (machine bytes)

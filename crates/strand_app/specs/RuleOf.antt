@@ -2,7 +2,7 @@
 use Rattle.std.specs.Prelude.{Some, None}
 use Rattle.std.specs.declared.option.Option.{Option}
 use Rattle.strand_modules.specs.Bank.{BankSeen}
-use Rattle.strand_app.specs.Command.{Command, asm, list, run, judge, trace, gen, gen_image, gen_schedule}
+use Rattle.strand_app.specs.Command.{Command, asm, list, upgrade, run, judge, trace, gen, gen_image, gen_schedule}
 use Rattle.strand_app.specs.Commands.Asm.{asm_rule}
 use Rattle.strand_app.specs.Commands.Gen.{gen_rule}
 use Rattle.strand_app.specs.Commands.GenImage.{gen_image_rule}
@@ -11,6 +11,7 @@ use Rattle.strand_app.specs.Commands.Judge.{judge_rule}
 use Rattle.strand_app.specs.Commands.List.{list_rule}
 use Rattle.strand_app.specs.Commands.Run.{run_rule}
 use Rattle.strand_app.specs.Commands.Trace.{trace_rule}
+use Rattle.strand_app.specs.Commands.Upgrade.{upgrade_rule}
 use Rattle.strand_app.specs.NoCommand.{no_command}
 use Rattle.strand_app.specs.Rule.{Rule}
 
@@ -19,6 +20,7 @@ abbrev pub rule_of : Option Command → BankSeen → Rule
 rule_of None bank = no_command bank
 rule_of (Some (asm text)) bank = asm_rule text bank
 rule_of (Some (list image)) bank = list_rule image bank
+rule_of (Some (upgrade image)) bank = upgrade_rule image bank
 rule_of (Some (run machine image schedule stop)) bank = run_rule machine image schedule stop bank
 rule_of (Some (judge machine image schedule stop crash)) bank = judge_rule machine image schedule stop crash bank
 rule_of (Some (trace machine image schedule stop)) bank = trace_rule machine image schedule stop bank

@@ -14,6 +14,8 @@ pub enum Command<'a> {
     Asm { text: &'a str },
     /// `list IMAGE`: the listing of an image.
     List { image: &'a str },
+    /// `upgrade IMAGE`: the image in version 2.
+    Upgrade { image: &'a str },
     /// `run MACHINE IMAGE SCHEDULE STOP`: the report of a run.
     Run { words: RunWords<'a> },
     /// `judge MACHINE IMAGE SCHEDULE STOP CRASH`: the verdict on a crash image.
@@ -45,6 +47,8 @@ fn one_file<'a>(word: &str, file: &'a str) -> Option<Command<'a>>
         Some(Command::Asm { text: file })
     } else if word == "list" {
         Some(Command::List { image: file })
+    } else if word == "upgrade" {
+        Some(Command::Upgrade { image: file })
     } else {
         None
     }

@@ -6,3 +6,4 @@ pub mod judge;
 pub mod list;
 pub mod run;
 pub mod trace;
+pub mod upgrade;

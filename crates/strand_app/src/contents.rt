@@ -1,14 +1,14 @@
 // The files of commands, each fetched and read by its rule. A file's number is its place among the names of its
 // command, from 1.
 ghost use Rattle.std.specs.Prelude.{◌≡◌, ◌≤◌, length, All, IfOk};
-ghost use Rattle.strand_app.specs.declared.file_sizes.TheConstants.{MOST_MACHINE_BYTES, MOST_FILE_BYTES, MOST_CRASH_BYTES};
+ghost use Rattle.strand_app.specs.declared.file_sizes.TheConstants.{MOST_MACHINE_BYTES, MOST_FILE_BYTES, MOST_IMAGE_BYTES, MOST_CRASH_BYTES};
 ghost use Rattle.strand_app.specs.Contents.{crash_in, image_in, machine_in, schedule_in, text_in};
 ghost use Rattle.strand_app.specs.Fetching.{FetchesFile, IsSaid};
 ghost use Rattle.strand_app.specs.Opening.{open_fault};
 ghost use Rattle.strand_inputs.specs.Schedule.{IsBelow};
 
 use crate::fetching::{OpenFault, fetch};
-use crate::file_sizes::{MOST_CRASH_BYTES, MOST_FILE_BYTES, MOST_MACHINE_BYTES};
+use crate::file_sizes::{MOST_CRASH_BYTES, MOST_FILE_BYTES, MOST_IMAGE_BYTES, MOST_MACHINE_BYTES};
 use std::alloc::Global;
 use strand_asm::{AsmFault, assemble};
 use strand_base::Files;
@@ -52,7 +52,7 @@ pub fn fetch_machine<F: Files>(
 }
 
 fn image_of(alloc: Global, file: u32, bytes: &[u8]) -> Result<Image, OpenFault>
-    requires { length bytes.now ≤ MOST_FILE_BYTES }
+    requires { length bytes.now ≤ MOST_IMAGE_BYTES }
     ensures { IsSaid file (λ image. image) (image_in bytes.now) result }
 {
     match read_image(alloc, bytes) {
@@ -71,7 +71,7 @@ pub fn fetch_image<F: Files>(
     ensures { FetchesFile file image_in (λ image. image) name.now
         (F.seen files.old) (F.seen files.new) result }
 {
-    let bytes = fetch(alloc, file, name, MOST_FILE_BYTES, files)?;
+    let bytes = fetch(alloc, file, name, MOST_IMAGE_BYTES, files)?;
     image_of(alloc, file, &bytes)
 }
 

@@ -23,6 +23,7 @@ use crate::commands::judge::judge_crash;
 use crate::commands::list::list_image;
 use crate::commands::run::report_run;
 use crate::commands::trace::trace_run;
+use crate::commands::upgrade::upgrade_image;
 use crate::status::{Made, Status};
 use std::alloc::Global;
 use strand_base::{Files, OutOfMemory, Sink, put_all};
@@ -154,6 +155,7 @@ fn make<F: Files>(
     match command {
         Command::Asm { text } => asm_text(alloc, text, files),
         Command::List { image } => list_image(alloc, image, files),
+        Command::Upgrade { image } => upgrade_image(alloc, image, files),
         Command::Run { words } => report_run(alloc, words, files, bank),
         Command::Judge { words, crash } => judge_crash(alloc, words, crash, files, bank),
         Command::Trace { words } => trace_run(alloc, words, files, bank),

@@ -66,13 +66,13 @@ none_stray es words all =
     let no : ltb (length es) (length es) ≡ false = grind (arith, nat_tests) in
     rw (len, no) refl
 
-limits_pass : (a b c d : ℕ) → is_within Cores a ≡ true → is_within Code b ≡ true → is_within Volatile c ≡ true → is_within Persistent d ≡ true → image.within_limits a b c d ≡ Ok tt
+limits_pass : (a b c d : ℕ) → is_within Cores a ≡ true → is_within Code b ≡ true → is_within Volatile c ≡ true → is_within Persistent d ≡ true → image.image_limits a b c d 0 ≡ Ok tt
 unfolding image.within_limits
 limits_pass a b c d p q r s = rw (p, q, r, s) refl
 
-makes : (p : ImageSeen) → image.within_limits (length p.entries) (length p.code) (length p.volatile) (length p.persistent) ≡ Ok tt → AreEntries p.entries (length p.code) → image.checked_image p ≡ Ok p
-unfolding image.checked_image image.entries_exist
-makes p e all = rw (e, none_stray p.entries (length p.code) all) refl
+makes : (p : ImageSeen) → p.symbols ≡ [] → image.image_limits (length p.entries) (length p.code) (length p.volatile) (length p.persistent) 0 ≡ Ok tt → AreEntries p.entries (length p.code) → image.checked_image p ≡ Ok p
+unfolding image.checked_image image.kept_image image.entries_exist image.symbols_stand
+makes p none e all = rw (none, e, none_stray p.entries (length p.code) all) refl
 
 one_word : (n : ℕ) → is_within Code n ≡ true → 1 ≤ n
 one_word n e = grind (arith, nat_tests)
@@ -82,7 +82,7 @@ fits text layout draft e g f =
     let h = agrees text layout draft e f in
     let l = limits layout g in
     let code_entries = entries_in draft.parts.entries layout.code h.entries_within (one_word layout.code l.code_pass) in
-    makes (with_entry draft.parts)
+    makes (with_entry draft.parts) refl
     (limits_pass _ _ _ _
     (ap (is_within Cores) (entry_count draft.parts.entries layout.cores h.entries_count) ∙ l.cores_pass)
     (ap (is_within Code) h.code_count ∙ l.code_pass)

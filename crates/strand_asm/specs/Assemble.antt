@@ -29,8 +29,9 @@ abbrev pub entered : List ℕ → List ℕ
 entered [] = 0 ∷ []
 entered (e ∷ es) = e ∷ es
 
+-- An assembled image has no symbols.
 abbrev pub with_entry : ImageSeen → ImageSeen
-with_entry p = record p { entries = entered p.entries }
+with_entry p = record p { entries = entered p.entries; symbols = [] }
 
 -- First the lines in order, then the limits, then the numbers and names in order.
 unfoldable pub assembled : List ℕ → Result ImageSeen AsmFault

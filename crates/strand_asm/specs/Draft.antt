@@ -79,7 +79,7 @@ drafted layout n d line = do
   Ok (added d more)
 
 unfoldable pub blank : DraftSeen
-blank = record { section = sections.Code; parts = image_seen [] [] [] [] }
+blank = record { section = sections.Code; parts = image_seen [] [] [] [] [] }
 
 unfoldable pub draft_of : Layout → List ℕ → Result DraftSeen AsmFault
 draft_of layout text = over_lines (drafted layout) 1 blank (lines_of text)

@@ -58,3 +58,7 @@ listing p = lines_text (listing_lines p)
 -- a word that an instruction has is that instruction's word
 abbrev pub IsDecoded : ℕ → Type 0
 IsDecoded w = IfSome (instr_of w) (λ i. IsValid i × (instr_word i ≡ w))
+
+-- The listing says nothing of symbols.
+abbrev pub without_symbols : ImageSeen → ImageSeen
+without_symbols p = record p { symbols = [] }

@@ -16,7 +16,7 @@ use strand_image::Image;
 /// defined before. Then `Limit` for the first of cores, code, volatile and persistent words whose number is
 /// outside its limits. Then, over the lines in order, `Undefined` and `Range`. Sizes are counted before
 /// any word is made. Lines are numbered from 1 with 32 bits, so a text has fewer than 2^32 bytes.
-/// `OutOfMemory` is want of memory.
+/// `OutOfMemory` is want of memory. The image has no symbols.
 #[tactic(auto, unfolding(crate::specs::Assemble::assembled))]
 pub fn assemble(alloc: Global, text: &[u8]) -> Result<Image, AsmFault>
     requires { length text.now < 2 ^ 32 }
@@ -25,7 +25,7 @@ pub fn assemble(alloc: Global, text: &[u8]) -> Result<Image, AsmFault>
     let layout = layout_of(alloc, text)?;
     check_limits(&layout)?;
     let draft = draft_of(alloc, &layout, text)?;
-    match draft.finish() {
+    match draft.finish(alloc) {
         Ok(image) => Ok(image),
         Err(_) => Err(AsmFault::OutOfMemory),
     }

@@ -21,12 +21,13 @@ pub(crate) struct Draft {
 }
 
 impl Model for Draft {
+    ghost use Rattle.std.specs.Prelude.{[]};
     ghost use Rattle.strand_image.specs.ImageSeen.{image_seen};
     ghost use Rattle.strand_asm.specs.DraftSeen.{DraftSeen};
 
     ghost Value = { DraftSeen };
 
-    ghost view = { λ s. record { section = s.section; parts = image_seen s.entries.items s.code.items s.volatile.items s.persistent.items } };
+    ghost view = { λ s. record { section = s.section; parts = image_seen s.entries.items s.code.items s.volatile.items s.persistent.items [] } };
 }
 
 fn put_zeros(words: &mut Vec<u64>, count: u32) -> Result<(), OutOfMemory>
@@ -108,8 +109,8 @@ impl Draft {
         }
     }
 
-    /// The image, which begins at the first code word where the text names no entry.
-    pub(crate) fn finish(self) -> Result<Image, OutOfMemory>
+    /// The image, which begins at the first code word where the text names no entry. It has no symbols.
+    pub(crate) fn finish(self, alloc: Global) -> Result<Image, OutOfMemory>
         requires { checked_image (with_entry self.parts) ≡ Ok (with_entry self.parts) }
         ensures { IfOk result (λ image. image ≡ with_entry self.parts) }
     {
@@ -117,7 +118,13 @@ impl Draft {
         if entries.is_empty() {
             put_one(&mut entries, 0)?;
         }
-        match Image::make(entries, self.code, self.volatile, self.persistent) {
+        match Image::make(
+            entries,
+            self.code,
+            self.volatile,
+            self.persistent,
+            Vec::new(alloc),
+        ) {
             Ok(image) => Ok(image),
             Err(_) => Err(OutOfMemory),
         }

@@ -20,6 +20,3 @@ mod targets;
 pub use assembling::assemble;
 pub use fault::AsmFault;
 pub use listing::list;
-
-#[cfg(test)]
-mod tests;

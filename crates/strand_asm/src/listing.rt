@@ -4,7 +4,7 @@ ghost use Rattle.strand_base.specs.Puts.{Puts};
 ghost use Rattle.strand_isa.specs.Print.{instr_text};
 ghost use Rattle.strand_isa.specs.Word.{IsValid};
 ghost use Rattle.strand_asm.specs.Assemble.{assembled};
-ghost use Rattle.strand_asm.specs.Listing.{IsDecoded, code_lines, code_text, data_lines, entry_lines, entry_text, lines_text, listing, space_text, text_or, word_text};
+ghost use Rattle.strand_asm.specs.Listing.{IsDecoded, code_lines, code_text, data_lines, entry_lines, entry_text, lines_text, listing, space_text, text_or, word_text, without_symbols};
 
 use strand_base::{OutOfMemory, hex_digits, print_decimal, put};
 use strand_image::Image;
@@ -165,10 +165,11 @@ fn put_sections(into: &mut Vec<u8>, volatile: &[u64], persistent: &[u64]) -> Res
 
 /// Appends the listing of an image: an assembler text with `.entry` for each core, and then the sections
 /// with a line for each code word, for each longest run of data words of 0 and for each other data word.
-/// Where memory ran out, a front of it is appended. The assembly of the listing is the image again.
+/// Where memory ran out, a front of it is appended. Symbols aren't listed: the assembly of
+/// the listing is the image again without them.
 pub fn list(image: &Image, into: &mut Vec<u8>) -> Result<(), OutOfMemory>
     ensures text { Puts result (listing image.now) into.old.items into.new.items }
-    ensures again { OnOk result (assembled (listing image.now) ≡ Ok image.now) }
+    ensures again { OnOk result (assembled (listing image.now) ≡ Ok (without_symbols image.now)) }
 {
     put_front(into, image.entries(), image.code())?;
     put_sections(into, image.volatile(), image.persistent())

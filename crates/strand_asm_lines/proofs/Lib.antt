@@ -1,4 +1,3 @@
 pub mod Pieces
-pub mod NameText
 pub mod LineParts
 pub mod Registers

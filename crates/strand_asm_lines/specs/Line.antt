@@ -1,16 +1,17 @@
 -- A line of assembler text: its label and what stands behind it, or its first fault.
-use Rattle.std.specs.Prelude.{◌≡◌, ℕ, ◌<◌, ℤ, pos, negsuc, ◌||◌, nat_lt, nat_le, if◌then◌else◌, List, [], ◌∷◌, length, Option, Some, None, Result, Ok, Err}
+use Rattle.std.specs.Prelude.{◌≡◌, ℕ, ◌<◌, ℤ, pos, negsuc, ◌||◌, nat_lt, nat_le, if◌then◌else◌, List, [], ◌∷◌, length, Option, Some, None, Result, Ok, Err, IfSome, IsTrue}
 use Rattle.std.specs.List.{before_first, list_all}
 use Rattle.std.specs.Option.{option_map, option_and_then, ok_or}
 use Rattle.std.specs.Str.{bytes_eq}
 use lib.Chars.{codes}
-use Rattle.strand_base.specs.declared.limits.TheConstants.{MOST_DATA}
+use Rattle.strand_base.specs.declared.limits.TheConstants.{MOST_DATA, MOST_LABEL}
 use Rattle.strand_base.specs.Text.{is_blank, words_of, content_of}
 use Rattle.strand_asm_lines.specs.Bytes.{is_plain, pieces, from_first, after_blanks, lone, operand_texts, operand_at, some_empty}
-use Rattle.strand_asm_lines.specs.Token.{is_name, name_of, register_of, number_of, bracketed, offset_of}
+use Rattle.strand_base.specs.Name.{is_name, is_label}
+use Rattle.strand_asm_lines.specs.Token.{name_of, register_of, number_of, bracketed, offset_of}
 use Rattle.strand_asm_lines.specs.Table.{form_of, mnemonic_of, due_count}
 use Rattle.strand_asm_lines.specs.declared.fault.LineKind.{LineKind}
-use Rattle.strand_asm_lines.specs.declared.fault.LineKind.TheVariants.{BadToken, BadNumber, BadRegister, UnknownName, MissingOperand, ExtraOperand}
+use Rattle.strand_asm_lines.specs.declared.fault.LineKind.TheVariants.{BadToken, LongName, BadNumber, BadRegister, UnknownName, MissingOperand, ExtraOperand}
 use Rattle.strand_asm_lines.specs.declared.fault.LineError.{LineError}
 use Rattle.strand_asm_lines.specs.declared.fault.LineError.TheVariants.{Fault, OutOfMemory}
 use Rattle.strand_asm_lines.specs.declared.mnemonic.Mnemonic.{Mnemonic}
@@ -126,9 +127,15 @@ labelled (front ∷ rest ∷ more ∷ pieces) = None
 unfoldable pub line_parts : List ℕ → Option (Option (List ℕ) × List ℕ)
 line_parts content = if list_all is_plain content then labelled (pieces 58 content) else None
 
+-- A label is not too long.
+abbrev pub label_fits : Option (List ℕ) → Result (Unit {0}) LineKind
+label_fits None = Ok tt
+label_fits (Some name) = if nat_le (length name) MOST_LABEL then Ok tt else Err LongName
+
 unfoldable pub line_of : List ℕ → Result Line LineKind
 line_of text = do
   parts ← ok_or (line_parts (content_of text)) BadToken
+  fits ← label_fits parts.0
   body ← body_of parts.1
   Ok (record { label = parts.0; body = body })
 
@@ -150,6 +157,10 @@ HasRegistersOf (bodies.Code pattern) = HasOperandRegister pattern.first × HasOp
 
 abbrev pub HasRegisters : Line → Type 0
 HasRegisters line = HasRegistersOf line.body
+
+-- The label of a line, if it has one, may name a symbol.
+abbrev pub HasLabel : Line → Type 0
+HasLabel line = IfSome line.label (λ name. IsTrue (is_label name))
 
 -- What a function returned is what was read, unless memory ran out; a fault has the line's number.
 abbrev pub GivesLine : {X : Type 0} → ℕ → Result X LineError → Result X LineKind → Type 0

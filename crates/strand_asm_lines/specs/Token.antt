@@ -1,11 +1,11 @@
 -- What one word says: a name, a register, a number, or a place in memory.
 use Rattle.std.specs.Prelude.{ℕ, ◌+◌, ◌-◌, ◌*◌, ◌^◌, ℤ, pos, neg_ℤ, Bool, ◌||◌, ◌&&◌, ◌==◌, nat_lt, nat_le, if◌then◌else◌, List, [], ◌∷◌, length, drop, Option, Some, None, slice_index}
-use Rattle.std.specs.List.{list_all}
 use Rattle.std.specs.Option.{option_map, option_and_then}
 use Rattle.std.specs.Result.{result_ok}
-use Rattle.std.specs.Char.{is_ascii_alphabetic, is_ascii_alphanumeric, is_ascii_digit}
+use Rattle.std.specs.Char.{is_ascii_digit}
 use Rattle.std.specs.Str.{bytes_eq}
 use lib.Chars.{codes}
+use Rattle.strand_base.specs.Name.{is_name}
 use Rattle.strand_base.specs.Number.{decimal_of, hexadecimal_of}
 use Rattle.strand_asm_lines.specs.Bytes.{pieces}
 
@@ -13,16 +13,7 @@ infixl 10 ◌>>=◌
 abbrev pub ◌>>=◌ : {A B : Type 0} → Option A → (A → Option B) → Option B
 o >>= f = option_and_then f o
 
--- A name is of letters, digits and '_', and does not begin with a digit.
-abbrev pub is_name_start : ℕ → Bool
-is_name_start b = is_ascii_alphabetic b || b == 95
-
-abbrev pub is_name_byte : ℕ → Bool
-is_name_byte b = is_ascii_alphanumeric b || b == 95
-
-abbrev pub is_name : List ℕ → Bool
-is_name w = nat_le 1 (length w) && is_name_start (slice_index w 0) && list_all is_name_byte w
-
+-- a word that is a name
 abbrev pub name_of : List ℕ → Option (List ℕ)
 name_of w = if is_name w then Some w else None
 

@@ -1,10 +1,11 @@
 use thiserror::Error;
 
-/// What is wrong with a line: its bytes or its label, a number, a register, its first word, or how many
+/// What is wrong with a line: its bytes or its label, the length of its label, a number, a register, its first word, or how many
 /// operands it has.
 #[derive(Clone, Copy, Debug, PartialEq, Eq)]
 pub enum LineKind {
     BadToken,
+    LongName,
     BadNumber,
     BadRegister,
     UnknownName,

@@ -16,6 +16,3 @@ pub use line::{Body, Line, Operand, Pattern, Section};
 pub use mnemonic::Mnemonic;
 pub use name::Name;
 pub use reading::read_line;
-
-#[cfg(test)]
-mod tests;

@@ -1,5 +1,5 @@
 ghost use Rattle.std.specs.Prelude.{◌≡◌, IsTrue, IfOk};
-ghost use Rattle.strand_asm_lines.specs.Token.{is_name};
+ghost use Rattle.strand_base.specs.Name.{is_name};
 
 use std::alloc::Global;
 use std::fmt;
@@ -17,7 +17,7 @@ impl Model for Name {
 
     ghost Value = { List ℕ };
 
-    ghost use Rattle.strand_asm_lines.specs.Token.{is_name};
+    ghost use Rattle.strand_base.specs.Name.{is_name};
 
     ghost view = { λ s. s.bytes.items };
 

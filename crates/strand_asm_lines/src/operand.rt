@@ -6,10 +6,10 @@ ghost use Rattle.strand_asm_lines.specs.Line.{in_word, memory_of, operand_of, sp
 
 use crate::bytes::lone_word;
 use crate::table::Due;
-use crate::token::{bracketed, is_name, number, offset, register};
+use crate::token::{bracketed, number, offset, register};
 use crate::{LineError, LineFault, LineKind, Name, Operand};
 use std::alloc::Global;
-use strand_base::MOST_DATA;
+use strand_base::{MOST_DATA, is_name};
 
 fn register_in(text: &[u8]) -> Option<u8>
     ensures { result ≡ in_word register_of text.now }
@@ -34,7 +34,7 @@ fn space(text: &[u8]) -> Option<u32>
     }
 }
 
-/// How many words `.space` makes, from 0 to 131,072.
+/// How many words `.space` makes, from 0 to 262,144.
 pub(crate) fn space_in(text: &[u8]) -> Option<u32>
     ensures { result ≡ in_word space_of text.now }
 {

@@ -1,19 +1,18 @@
-ghost use Rattle.std.specs.Prelude.{◌≡◌, IfOk, IfSome, IsTrue};
+ghost use Rattle.std.specs.Prelude.{◌≡◌, IfOk, IfSome, IsTrue, OnOk};
 ghost use Rattle.std.specs.Option.{option_map};
 ghost use Rattle.strand_asm_lines.specs.Table.{form_of};
 ghost use Rattle.strand_asm_lines.specs.Bytes.{pieces, operand_texts};
-ghost use Rattle.strand_asm_lines.specs.Token.{is_name};
-ghost use Rattle.strand_asm_lines.specs.Line.{operands_counted, head_of, instruction_of, directive_of, body_by, body_of, labelled, line_parts, line_of, HasRegisters, GivesLine};
+ghost use Rattle.strand_base.specs.Name.{is_label, is_name};
+ghost use Rattle.strand_asm_lines.specs.Line.{operands_counted, head_of, instruction_of, directive_of, body_by, body_of, label_fits, labelled, line_parts, line_of, HasLabel, HasRegisters, GivesLine};
 
 use crate::bytes::{
     after_blanks, are_plain, comma_count, cut, has_empty, operand_at, split_at_blank,
 };
 use crate::operand::{fault, number_in, operand, space_in};
 use crate::table::{Due, due_count, form_of, mnemonic};
-use crate::token::is_name;
 use crate::{Body, Line, LineError, LineKind, Mnemonic, Name, Pattern, Section};
 use std::alloc::Global;
-use strand_base::{content, next_word};
+use strand_base::{MOST_LABEL, content, is_name, next_word};
 
 /// What the first word of a line says.
 #[derive(Clone, Copy)]
@@ -192,19 +191,40 @@ fn parts(text: &[u8]) -> Option<(Option<&[u8]>, &[u8])>
     }
 }
 
+fn check_label(label: Option<&[u8]>) -> Result<(), LineKind>
+    requires { IfSome label (λ n. IsTrue (is_name n.now)) }
+    ensures gives { result ≡ label_fits (option_map (λ n. n.now) label.entry) }
+    ensures label { OnOk result (IfSome label.entry (λ n. IsTrue (is_label n.now))) }
+{
+    match label {
+        None => Ok(()),
+        Some(name) => {
+            if name.len() <= MOST_LABEL {
+                Ok(())
+            } else {
+                Err(LineKind::LongName)
+            }
+        }
+    }
+}
+
 /// The parts of a line of assembler text, by the grammar of docs/assembler.md. `line` is its number,
 /// which a fault carries. It takes memory for names alone.
 ///
-/// The fault is exactly the line's first: `BadToken`, `UnknownName`, `MissingOperand`, `ExtraOperand`,
+/// The fault is exactly the line's first: `BadToken`, `LongName`, `UnknownName`, `MissingOperand`, `ExtraOperand`,
 /// and then that of its first operand that has one. `OutOfMemory` is want of memory.
 #[tactic(auto, unfolding(crate::specs::Line::line_of))]
 pub fn read_line(alloc: Global, text: &[u8], line: u32) -> Result<Line, LineError>
     ensures gives { GivesLine line result (line_of text.now) }
     ensures registers { IfOk result HasRegisters }
+    ensures label { IfOk result HasLabel }
 {
     let Some((label, rest)) = parts(content(text)) else {
         return Err(fault(line, LineKind::BadToken));
     };
+    if let Err(kind) = check_label(label) {
+        return Err(fault(line, kind));
+    }
     let body = body(alloc, line, rest)?;
     let label = match label {
         None => None,

@@ -1,38 +1,9 @@
 ghost use Rattle.std.specs.Prelude.{◌≡◌, pos, neg_ℤ};
-ghost use Rattle.std.specs.List.{list_all};
 ghost use Rattle.std.specs.Option.{option_map};
-ghost use Rattle.strand_asm_lines.specs.Token.{is_name_start, is_name_byte, is_name, digit_of, two_digits, short_number, register_by_letter, named, numbered_register, register_of, negative_of, number_of, bracketed, offset_of};
+ghost use Rattle.strand_asm_lines.specs.Token.{digit_of, two_digits, short_number, register_by_letter, named, numbered_register, register_of, negative_of, number_of, bracketed, offset_of};
 
 use crate::bytes::cut;
 use strand_base::{read_decimal, read_hex};
-
-fn is_name_start(b: u8) -> bool
-    ensures { result ≡ is_name_start b }
-{
-    b.is_ascii_alphabetic() || b == b'_'
-}
-
-fn is_name_byte(b: u8) -> bool
-    ensures { result ≡ is_name_byte b }
-{
-    b.is_ascii_alphanumeric() || b == b'_'
-}
-
-fn are_name_bytes(text: &[u8]) -> bool
-    ensures { result ≡ list_all is_name_byte text.now }
-{
-    text.iter().all(|b| is_name_byte(*b))
-}
-
-/// Whether a text is a name.
-pub(crate) fn is_name(text: &[u8]) -> bool
-    ensures { result ≡ is_name text.now }
-{
-    if text.is_empty() {
-        return false;
-    }
-    is_name_start(text[0]) && are_name_bytes(text)
-}
 
 fn digit(b: u8) -> Option<u8>
     ensures { result ≡ digit_of b }

@@ -1,15 +1,17 @@
--- Serves clause again of print_hex16 and of list: printed hexadecimal digits are read again.
-use Rattle.std.proofs.Common.{◌≡◌, ℕ, zero, suc, ◌+◌, ◌*◌, ◌/◌, ◌%◌, ◌^◌, ◌<◌, true, false, not, ltb, List, [], ◌∷◌, length, None, Ok, refl, sym, ap, ◌∙◌, arith}
+-- Serves clause again of print_hex16 and of list, and whoever prints such words: printed hexadecimal digits are read again.
+use Rattle.std.proofs.Common.{◌≡◌, ℕ, zero, suc, ◌+◌, ◌*◌, ◌/◌, ◌%◌, ◌^◌, ◌<◌, ◌≤◌, true, false, not, ltb, List, [], ◌∷◌, length, Some, None, Ok, refl, sym, ap, ◌∙◌, arith}
 use Rattle.std.specs.Prelude.{position}
-use Rattle.std.specs.List.{position_or_len}
+use Rattle.std.specs.List.{position_or_len, AllByRecursion}
 use Rattle.std.specs.Char.{digit_value, is_ascii_hexdigit}
 use Rattle.std.specs.Str.Parse.{digits_value, digits_value_after}
 use Rattle.std.proofs.Math.Nat.{div-div-eq-div-mul, div-one, pow-suc}
 use Rattle.std.proofs.lemmas.Nat.{div-add-mod'}
 use Rattle.std.proofs.lemmas.Bool.{le-ltb, lt-ltb}
 use Rattle.std.proofs.lemmas.Bool.Decides.{nat_tests}
+use Rattle.std.proofs.lemmas.Slice.Eq.{bytes_eq-Decides}
 use Rattle.strand_base.specs.Number.{hexadecimal_of}
-use Rattle.strand_base.specs.Hexadecimal.{hex_digit, hex16}
+use Rattle.strand_base.specs.Hexadecimal.{hex_digit, hex16, hex16_in}
+use Rattle.strand_base.specs.Text.{IsPlainWord}
 
 -- the lowest k digits
 abbrev pub low_digits : ℕ → ℕ → List ℕ
@@ -70,3 +72,18 @@ low_again n k fits high =
 
 pub hex_again : (n : ℕ) → n < 2 ^ 64 → hexadecimal_of (hex16 n) ≡ Ok n
 hex_again n fits = rw (all_sixteen n) (low_again n 15 fits (omega arith))
+
+-- a word of sixteen printed digits is read again
+pub hex16_again : (n : ℕ) → n < 2 ^ 64 → hex16_in (hex16 n) ≡ Some n
+unfolding hex16_in
+hex16_again n fits = rw (hex_again n fits, (bytes_eq-Decides (hex16 n) (hex16 n)).1 refl) refl
+
+digit_plain : (d : ℕ) → d < 16 → 36 ≤ hex_digit d
+digit_plain d lt = grind (arith, nat_tests)
+
+digits_plain : (n k : ℕ) → AllByRecursion (λ b. 36 ≤ b) (low_digits n k)
+digits_plain n zero = tt
+digits_plain n (suc k) = (digit_plain (n / 2 ^ (4 * k) % 16) (omega arith), digits_plain n k)
+
+pub hex16_plain : (n : ℕ) → IsPlainWord (hex16 n)
+hex16_plain n = rw (all_sixteen n) (digit_plain (n / 2 ^ 60 % 16) (omega arith), digits_plain n 15)

@@ -8,3 +8,4 @@ pub mod HexAgain
 pub mod LittleEndian
 pub mod AppendsFront
 pub mod TakesAll
+pub mod NameText

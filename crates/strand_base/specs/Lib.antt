@@ -12,3 +12,4 @@ pub mod Number
 pub mod LittleEndian
 pub mod Puts
 pub mod Hexadecimal
+pub mod Name

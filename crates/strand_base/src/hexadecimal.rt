@@ -1,6 +1,6 @@
 ghost use Rattle.std.specs.Prelude.{◌≡◌, ◌<◌, Ok, position, not};
 ghost use Rattle.std.specs.Char.{is_ascii_hexdigit};
-ghost use Rattle.strand_base.specs.Hexadecimal.{hex_digit, hex16};
+ghost use Rattle.strand_base.specs.Hexadecimal.{hex_digit, hex16, hex16_in};
 ghost use Rattle.strand_base.specs.Number.{hexadecimal_of};
 ghost use Rattle.strand_base.specs.Puts.{Puts};
 
@@ -43,8 +43,23 @@ pub fn hex_digits(n: u64) -> [u8; 16]
     digits
 }
 
+/// The number whose sixteen lower-case hexadecimal digits a word is, and None exactly where it is no such word. It takes
+/// no memory.
+#[tactic(auto, unfolding(crate::specs::Hexadecimal::hex16_in))]
+pub fn read_hex16(word: &[u8]) -> Option<u64>
+    ensures { result ≡ hex16_in word.now }
+{
+    let number = read_hex(word).ok()?;
+    let digits = hex_digits(number);
+    if word == digits.as_slice() {
+        Some(number)
+    } else {
+        None
+    }
+}
+
 /// Appends the sixteen lower-case hexadecimal digits of a number. Where memory ran out, a front of
-/// them is appended. `read_hex` gives the number back.
+/// them is appended. `read_hex16` gives the number back, and so does `read_hex`.
 pub fn print_hex16(n: u64, into: &mut Vec<u8>) -> Result<(), OutOfMemory>
     ensures puts { Puts result (hex16 n) into.old.items into.new.items }
     ensures again { hexadecimal_of (hex16 n) ≡ Ok n }

@@ -25,6 +25,13 @@ fn numbers_are_read(rt: HostRuntime) {
         assert_eq!(rt; read_decimal(text.as_bytes()), decimal, "{text}");
         assert_eq!(rt; read_hex(text.as_bytes()), hex, "{text}");
     }
+    for (word, number) in [
+        ("0000000001abcdef", Some(0x01ab_cdef)),
+        ("0000000001abcdeF", None),
+        ("1abcdef", None),
+    ] {
+        assert_eq!(rt; read_hex16(word.as_bytes()), number, "{word}");
+    }
 }
 
 #[test]

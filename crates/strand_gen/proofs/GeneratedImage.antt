@@ -5,7 +5,7 @@ use Rattle.strand_isa.specs.Word.{instr_word}
 use Rattle.strand_isa.specs.declared.instr.Instr.TheVariants.{Jal}
 use Rattle.std.specs.Prelude.{negsuc}
 use Rattle.strand_image.specs.ImageSeen.{image_seen}
-use Rattle.strand_image.specs.Image.{checked_image, within_limits, entries_exist}
+use Rattle.strand_image.specs.Image.{checked_image, within_limits, kept_image, entries_exist, symbols_stand}
 use Rattle.strand_gen.specs.Draws.{Drawn, draw_list, initial_state}
 use Rattle.strand_gen.specs.Program.{instruction, core_program, program, code_of, generated_image}
 
@@ -25,9 +25,9 @@ code_length seed =
     omega (arith, length-map (program x).0 instr_word, length-append (core_program x).0 (core_program second).0, core_length x, core_length second)
 
 drawn_made : (seed : ℕ) → checked_image (generated_image seed) ≡ Ok (generated_image seed)
-unfolding checked_image within_limits entries_exist
+unfolding checked_image within_limits kept_image entries_exist symbols_stand
 drawn_made seed = rw (code_length seed) refl
 
 pub image_made : (seed : ℕ) (entries code volatile persistent : List ℕ) → entries ≡ 0 ∷ 66 ∷ [] → code ≡ code_of seed → volatile ≡ replicate 16 0 → persistent ≡ replicate 64 0
-    → checked_image (image_seen entries code volatile persistent) ≡ Ok (generated_image seed)
+    → checked_image (image_seen entries code volatile persistent []) ≡ Ok (generated_image seed)
 image_made seed entries code volatile persistent e c v p = rw (e, c, v, p) (drawn_made seed)

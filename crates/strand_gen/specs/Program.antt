@@ -61,4 +61,4 @@ code_of seed = map instr_word (program (initial_state seed)).0
 
 -- the image of two cores, whose data is zeros
 abbrev pub generated_image : ℕ → ImageSeen
-generated_image seed = image_seen (0 ∷ 66 ∷ []) (code_of seed) (replicate 16 0) (replicate 64 0)
+generated_image seed = image_seen (0 ∷ 66 ∷ []) (code_of seed) (replicate 16 0) (replicate 64 0) []

@@ -8,6 +8,3 @@ mod program;
 mod schedule;
 
 pub use generated::{Generated, generate};
-
-#[cfg(test)]
-mod tests;

@@ -158,5 +158,5 @@ pub(crate) fn generated_image(alloc: Global, seed: u64) -> Result<Image, OutOfMe
     let code = code_words(alloc, seed)?;
     let volatile = vec![in alloc; 0; 16]?;
     let persistent = vec![in alloc; 0; 64]?;
-    Ok(Image::make(entries, code, volatile, persistent).unwrap())
+    Ok(Image::make(entries, code, volatile, persistent, Vec::new(alloc)).unwrap())
 }

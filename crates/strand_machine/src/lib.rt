@@ -8,12 +8,8 @@ mod dispatch_steps;
 mod machine;
 mod making;
 mod parts;
-#[cfg(test)]
-mod plain_counts;
 mod send_steps;
 mod tally;
-#[cfg(test)]
-mod tests;
 mod waiting;
 mod write_steps;
 

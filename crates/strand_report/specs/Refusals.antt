@@ -7,11 +7,11 @@ use Rattle.strand_base.specs.Text.{line_text}
 use Rattle.strand_asm.specs.declared.fault.AsmFault.{AsmFault}
 use Rattle.strand_asm.specs.declared.fault.AsmFault.TheVariants as text
 use Rattle.strand_asm_lines.specs.declared.fault.LineKind.{LineKind}
-use Rattle.strand_asm_lines.specs.declared.fault.LineKind.TheVariants.{BadToken, BadNumber, BadRegister, UnknownName, MissingOperand, ExtraOperand}
+use Rattle.strand_asm_lines.specs.declared.fault.LineKind.TheVariants.{BadToken, LongName, BadNumber, BadRegister, UnknownName, MissingOperand, ExtraOperand}
 use Rattle.strand_image.specs.declared.fault.ImageFault.{ImageFault}
 use Rattle.strand_image.specs.declared.fault.ImageFault.TheVariants as image
 use Rattle.strand_image.specs.declared.quantity.Quantity.{Quantity}
-use Rattle.strand_image.specs.declared.quantity.Quantity.TheVariants.{Cores, Code, Volatile, Persistent}
+use Rattle.strand_image.specs.declared.quantity.Quantity.TheVariants.{Cores, Code, Volatile, Persistent, Symbols, Names}
 use Rattle.strand_inputs.specs.Machine.{key_word}
 use Rattle.strand_inputs.specs.declared.fault.InputFault.{InputFault}
 use Rattle.strand_inputs.specs.declared.fault.InputFault.TheVariants as input
@@ -33,9 +33,12 @@ quantity_word Cores = codes "cores"
 quantity_word Code = codes "code"
 quantity_word Volatile = codes "volatile"
 quantity_word Persistent = codes "persistent"
+quantity_word Symbols = codes "symbols"
+quantity_word Names = codes "names"
 
 abbrev pub kind_word : LineKind → List ℕ
 kind_word BadToken = codes "badtoken"
+kind_word LongName = codes "longname"
 kind_word BadNumber = codes "badnumber"
 kind_word BadRegister = codes "badregister"
 kind_word UnknownName = codes "unknownname"
@@ -65,6 +68,7 @@ image_fault_line k (image.Limit field value) =
     limit_line k (quantity_word field ∷ decimal value ∷ [])
 image_fault_line k (image.Entry core value) =
     input_line k (codes "entry" ∷ decimal core ∷ decimal value ∷ [])
+image_fault_line k (image.Symbol index) = input_line k (codes "symbol" ∷ decimal index ∷ [])
 image_fault_line k image.OutOfMemory = []
 
 -- of an assembler text

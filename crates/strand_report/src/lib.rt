@@ -28,6 +28,3 @@ pub use run::{RunView, write_run};
 pub use summary::{Summary, write_generated, write_summary};
 pub use trace::write_trace;
 pub use verdict::write_verdict;
-
-#[cfg(test)]
-mod tests;

@@ -21,6 +21,8 @@ fn word_of_quantity(quantity: Quantity) -> &'static str
         Quantity::Code => "code",
         Quantity::Volatile => "volatile",
         Quantity::Persistent => "persistent",
+        Quantity::Symbols => "symbols",
+        Quantity::Names => "names",
     }
 }
 
@@ -29,6 +31,7 @@ fn word_of_kind(kind: LineKind) -> &'static str
 {
     match kind {
         LineKind::BadToken => "badtoken",
+        LineKind::LongName => "longname",
         LineKind::BadNumber => "badnumber",
         LineKind::BadRegister => "badregister",
         LineKind::UnknownName => "unknownname",
@@ -123,6 +126,9 @@ fn put_image_fault(into: &mut Vec<u8>, file: u32, fault: ImageFault) -> Result<(
             file,
             &[Word("entry"), Decimal(core as u64), Decimal(value as u64)],
         ),
+        ImageFault::Symbol { index } => {
+            put_input(into, file, &[Word("symbol"), Decimal(index as u64)])
+        }
         ImageFault::OutOfMemory => Err(OutOfMemory),
     }
 }

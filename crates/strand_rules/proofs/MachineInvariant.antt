@@ -4,7 +4,7 @@ use Rattle.std.specs.Prelude.{nat_lt, Some, None, slice_set, slice_index, remove
 use Rattle.std.specs.declared.option.Option.{Option}
 use Rattle.std.proofs.lemmas.Bool.{cases_Bool, cases_eq, ltb-true, ltb-false, true≢false}
 use Rattle.std.proofs.lemmas.List.Edits.{length-remove, get_or-remove_below, get_or-remove_above}
-use Rattle.strand_base.specs.declared.limits.TheConstants.{MOST_MEMORY}
+use Rattle.strand_base.specs.declared.limits.TheConstants.{MOST_CORES, MOST_MEMORY}
 use Rattle.strand_exec.specs.Core.{Core}
 use Rattle.strand_events.specs.declared.event.Event.{Event}
 use Rattle.strand_events.specs.Places.{LieIn}
@@ -113,7 +113,7 @@ kept_write m j p kept room lt =
 
 -- before the first step
 pub record IsStart (m : Machine) : Type 0 where
-  pub cores : length m.state.now.cores ≤ 4
+  pub cores : length m.state.now.cores ≤ MOST_CORES
   pub few_volatile : m.program.sizes.volatile ≤ MOST_MEMORY
   pub few_steps : m.steps < 2 ^ 32
   pub made : m.made ≡ 0

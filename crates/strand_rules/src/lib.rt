@@ -1,4 +1,4 @@
-//! The plain machine: up to four cores under a schedule, whose persists go through a queue of their
+//! The plain machine: up to eight cores under a schedule, whose persists go through a queue of their
 //! core, a buffer of their strand and the requests in flight to the bank (docs/cycle.md). Under the
 //! rule `stall` an access of a core waits for what conflicts with it; under `tag` it retires, and
 //! its persist waits in its buffer until the wait of the access is met (docs/waits.md).
@@ -18,8 +18,6 @@ mod pipeline;
 mod plain_machine;
 mod plain_steps;
 mod send_rules;
-#[cfg(test)]
-mod tests;
 mod turn;
 mod waits;
 mod write_rules;

@@ -10,7 +10,7 @@ use lib.Chars.{codes}
 use Rattle.strand_base.specs.declared.limits.TheConstants.{MOST_DATA}
 use Rattle.strand_base.specs.Text.{lines_of}
 use Rattle.strand_image.specs.ImageSeen.{ImageSeen}
-use Rattle.strand_image.specs.Limits.{IsImage, IsWithin, is_within, least, most}
+use Rattle.strand_image.specs.Limits.{IsImage, IsWithin, is_within, least, image_most}
 use Rattle.strand_image.specs.declared.quantity.Quantity.{Quantity}
 use Rattle.strand_image.specs.declared.quantity.Quantity.TheVariants.{Cores, Code, Volatile, Persistent}
 use Rattle.strand_asm_lines.specs.declared.line.Section.TheVariants as sections
@@ -20,7 +20,7 @@ use Rattle.strand_asm.specs.Layout.{laid, layout_of, empty_layout}
 use Rattle.strand_asm.specs.DraftSeen.{DraftSeen}
 use Rattle.strand_asm.specs.Draft.{added, addition, blank, draft_of, drafted}
 use Rattle.strand_asm.specs.Assemble.{assembled, cores_of_entries, entered, limited}
-use Rattle.strand_asm.specs.Listing.{IsDecoded, code_lines, code_text, data_lines, data_texts, entry_lines, entry_text, listing, listing_lines, space_text, word_text}
+use Rattle.strand_asm.specs.Listing.{IsDecoded, code_lines, code_text, data_lines, data_texts, entry_lines, entry_text, listing, listing_lines, space_text, without_symbols, word_text}
 use Rattle.strand_asm.proofs.ListAgain.Lines.{IsText, is_text, lines_again}
 use Rattle.strand_asm.proofs.ListAgain.ManyLines.{Goes, goes_all, goes_append, goes_cons}
 use Rattle.strand_asm.proofs.ListAgain.Directives.{code_line, entry_line, persist_line, space_line, volatile_line, word_line}
@@ -114,7 +114,7 @@ draft_again p h = rw (listing_is_read p h) (goes_all (drafted (whole p)) _ _ (li
 is_allowed : (what : Quantity) (n : ℕ) → IsWithin what n → is_within what n ≡ true
 is_allowed what n h =
     let low : nat_le (least what) n ≡ true = grind (arith, nat_tests, h.0) in
-    let high : nat_le n (most what) ≡ true = grind (arith, nat_tests, h.1) in
+    let high : nat_le n (image_most what) ≡ true = grind (arith, nat_tests, h.1) in
     rw (low, high) refl
 
 some_cores : (n : ℕ) → 1 ≤ n → cores_of_entries n ≡ n
@@ -136,11 +136,11 @@ same_entries : (es : List ℕ) → 1 ≤ length es → entered es ≡ es
 same_entries [] le = absurd (omega (arith, le))
 same_entries (e ∷ es) le = refl
 
-pub again : (p : ImageSeen) → IsImage p → ((k : ℕ) → k < length p.code → IsDecoded (slice_index p.code k)) → assembled (listing p) ≡ Ok p
+pub again : (p : ImageSeen) → IsImage p → ((k : ℕ) → k < length p.code → IsDecoded (slice_index p.code k)) → assembled (listing p) ≡ Ok (without_symbols p)
 unfolding assembled
 again p image decoded =
     let h : Listed p = record { image = image; code_words = λ k lt. code_line_of (get_or p.code k 0) (image.code_numbers k lt) (decoded k lt) } in
-    rw (layout_again p h, limits_again p image, draft_again p h) (ap (λ (es : List ℕ). Ok (record p { entries = es })) (same_entries p.entries image.limits.cores_within.0))
+    rw (layout_again p h, limits_again p image, draft_again p h) (ap (λ (es : List ℕ). Ok (record (without_symbols p) { entries = es })) (same_entries p.entries image.limits.cores_within.0))
 
 pub ok_when : {T E : Type 0} (r : Result T E) (P : Type 0) → P → OnOk r P
 ok_when (Ok x) P p = p

@@ -27,7 +27,7 @@ abbrev pub st : Section → ℕ → ℕ → ℕ → ℕ → Layout
 st s cores code volatile persistent = record { section = s; cores = cores; code = code; volatile = volatile; persistent = persistent; labels = [] }
 
 abbrev pub dr : Section → List ℕ → List ℕ → List ℕ → List ℕ → DraftSeen
-dr s entries code volatile persistent = record { section = s; parts = image_seen entries code volatile persistent }
+dr s entries code volatile persistent = record { section = s; parts = image_seen entries code volatile persistent [] }
 
 push_length : (xs : List ℕ) (w : ℕ) → length (xs ++ w ∷ []) ≡ length xs + 1
 push_length xs w = length-append xs (w ∷ [])

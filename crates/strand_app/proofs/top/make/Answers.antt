@@ -6,6 +6,9 @@ returns-in-Asm g c = rw c.in-Asm.is (c.asm_text.ensures _)
 pub returns-in-List : goal.returns-in-List
 returns-in-List g c = rw c.in-List.is (c.list_image.ensures _)
 
+pub returns-in-Upgrade : goal.returns-in-Upgrade
+returns-in-Upgrade g c = rw c.in-Upgrade.is (c.upgrade_image.ensures _)
+
 pub returns-in-Run : goal.returns-in-Run
 returns-in-Run g c = rw c.in-Run.is c.report_run.ensures
 

@@ -1,12 +1,12 @@
-use Rattle.std.proofs.Common.{◌≡◌, ℕ, List, Result, Ok, Err, IfOk, sym, rules, arith}
+use Rattle.std.proofs.Common.{ℕ, List, Result, Ok, Err, IfOk, sym, rules, arith}
 use Rattle.strand_image.specs.ImageSeen.{ImageSeen}
-use Rattle.strand_image.specs.Image.{image_of, image_bytes, GivesImage}
+use Rattle.strand_image.specs.Image.{image_of, GivesImage, Spells}
 use Rattle.strand_image.specs.declared.fault.ImageFault.{ImageFault}
 use Rattle.strand_base.proofs.LittleEndian.{AreBytes}
 use Rattle.strand_image.proofs.Spelling.{image_spelt}
 use Rattle.strand_image.proofs.reading.read_image.Goals as goal
 
-spelling : (result : Result ImageSeen ImageFault) (bytes : List ℕ) → AreBytes bytes → GivesImage result (image_of bytes) → IfOk result (λ image. bytes ≡ image_bytes image)
+spelling : (result : Result ImageSeen ImageFault) (bytes : List ℕ) → AreBytes bytes → GivesImage result (image_of bytes) → IfOk result (λ image. Spells bytes image)
 spelling (Ok p) bytes all e = image_spelt bytes p all (sym e)
 spelling (Err d) bytes all e = tt
 

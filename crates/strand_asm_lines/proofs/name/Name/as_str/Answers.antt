@@ -1,4 +1,4 @@
-use Rattle.strand_asm_lines.proofs.NameText.{name_is_utf8}
+use Rattle.strand_base.proofs.NameText.{name_is_utf8}
 use Rattle.strand_asm_lines.proofs.name.Name.as_str.Goals as goal
 
 pub returns-in-Err-clause-text : goal.returns-in-Err-clause-text
