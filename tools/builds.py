@@ -9,7 +9,8 @@ import subprocess
 
 TOP = os.path.dirname(os.path.dirname(os.path.abspath(__file__)))
 # The toolchain: it notes where and with which words it is called, and of each crate says how its check ends, by ENDS. What it
-# builds puts the first example's report, and `rt try` puts TRIED, or has no answer where that is empty.
+# builds puts the first example's report, and while it builds it edits EDITED, where that isn't empty. `rt try` puts TRIED, or has no
+# answer where that is empty.
 TOOLCHAIN = r"""#!/usr/bin/env python3
 import json, os, sys
 if sys.argv[1] == "version":
@@ -24,8 +25,11 @@ if sys.argv[1] == "try":
 if sys.argv[1] == "run":
     os.makedirs("out", exist_ok=True)
     with open("out/strand", "w") as program:
-        program.write(f"#!/bin/sh\ncat {first}\n")
+        program.write('#!/bin/sh\ncat "$FIRST"\n')
     os.chmod("out/strand", 0o755)
+    if os.environ["EDITED"]:
+        with open(os.environ["EDITED"], "a") as source:
+            source.write("\n")
     sys.exit(os.spawnlp(os.P_WAIT, "cat", "cat", first))
 print("rt: a word before the first crate")
 for crate, end in ends.items():
@@ -67,22 +71,25 @@ class Repository:
         os.chmod(os.path.join(self.tools, "rt"), 0o755)
         self.first = os.path.join(self.folder, "examples", "first")
 
+    def source(self, crate):
+        return os.path.join(self.folder, "crates", crate, "src", "lib.rt")
+
     def edit(self, crate):
         """Makes a source another one than the program's."""
-        with open(os.path.join(self.folder, "crates", crate, "src", "lib.rt"), "a", encoding="ascii") as file:
+        with open(self.source(crate), "a", encoding="ascii") as file:
             file.write("\n")
 
-    def run(self, ends, path=None, choice="yes", tried=None, words=None):
+    def run(self, ends, path=None, choice="yes", tried=None, words=None, edited="", output=subprocess.PIPE):
         """One call of `./strand` where the checks of the crates end so: what it puts, its status, what it says on standard error,
         and how it called the toolchain."""
-        given = {"CALLS": self.calls, "FIRST": os.path.join(self.first, "printed"), "ENDS": json.dumps(ends)}
+        given = {"CALLS": self.calls, "FIRST": os.path.join(self.first, "printed"), "ENDS": json.dumps(ends), "EDITED": edited}
         given["TRIED"] = self.report().decode() if tried is None else tried
         given["PATH"], given["STRAND_BUILD"] = path or f"{self.tools}:{os.environ['PATH']}", choice
         words = words or ["run", *(os.path.join(self.first, name) for name in ("machine", "image", "schedule")), "end"]
         with open(self.calls, "w", encoding="ascii"):
             pass
         done = subprocess.run([os.path.join(self.folder, "strand"), *words], stdin=subprocess.DEVNULL,
-                              stdout=subprocess.PIPE, stderr=subprocess.PIPE, env={**os.environ, **given}, timeout=60)
+                              stdout=output, stderr=subprocess.PIPE, env={**os.environ, **given}, timeout=60)
         with open(self.calls, encoding="ascii") as file:
             return done.stdout, done.returncode, done.stderr.decode(), file.read().splitlines()
 
@@ -113,13 +120,26 @@ def due(check, name, got, put, status, calls, *said):
     check.note(name, "" if is_right else f"status {got[1]}, {got[0]!r}, {got[3]}, {got[2]!r}")
 
 
+def try_words(check, repository, commands):
+    """What is told at once, with no toolchain called; each command of docs/program.md, which is run; and an output that fails."""
+    ends = {crate: "ok" for crate in repository.below}
+    for words, put, status in ((["--help"], b"strand: which", 0), (["--version"], b"strand, ", 0), (["list"], b"fault words\n", 2),
+                               ([b"list", b"\xff"], b"", 10)):
+        got = repository.run(ends, words=words)
+        is_right = got[1] == status and got[0].startswith(put) and not got[3]
+        check.note(f"{words} before a build", "" if is_right else f"{got}")
+    given = {"SEED": "1", "SIZE": "2", "STOP": "end"}
+    for name, *others in commands:
+        got = repository.run(ends, choice="no", words=[name, *(given.get(word, "file") for word in others)])
+        is_right = got[1] == 0 and len(got[3]) == 1 and got[3][0].startswith("strand try -- ")
+        check.note(f"{name} before a build", "" if is_right else f"{got}")
+    with open("/dev/full", "wb") as full:
+        due(check, "a full output", repository.run(ends, choice="no", output=full), None, 5, TRY, "the output failed", UNPROVED)
+
+
 def try_good(check, repository):
     """An answer before the proof, and the program proved, built once, and built again behind an edit."""
     ends, report = {crate: "ok" for crate in repository.below}, repository.report()
-    for words, status, first in (["--help"], 0, b"strand: which"), (["--version"], 0, b"strand, "), (["list"], 2, b"fault words\n"):
-        put, ended, said, calls = repository.run(ends, words=words)
-        is_right = ended == status and put.startswith(first) and not calls
-        check.note(f"{words} before a build", "" if is_right else f"status {ended}, {put!r}, {said!r}, {calls}")
     due(check, "an answer alone", repository.run(ends, choice="no"), report, 0, TRY, UNPROVED)
     made = r"strand all check --jobs [1-9]\d*\nstrand run -- run \S+ \S+ \S+ end"
     for name in ("a first build", "a build behind an edit"):
@@ -132,6 +152,10 @@ def try_good(check, repository):
         repository.edit("strand_events")
     due(check, "the program alone", repository.run(ends, choice="only"), b"", 0, made)
     due(check, "the program alone, and no other", repository.run(ends, choice="only"), b"", 0, "")
+    repository.edit("strand_events")
+    got = repository.run(ends, choice="only", edited=repository.source("strand_base"))
+    due(check, "an edit during the build", got, b"", 71, made, "the sources changed")
+    due(check, "no program behind it", repository.run(ends, choice="no"), report, 0, TRY, UNPROVED)
 
 
 def try_differing(check, repository):
@@ -165,7 +189,8 @@ def try_bad(check, repository):
     due(check, "a check that is killed", got, report, 0, f"{TRY}\n.*\n.*", f"{broken} was killed", SAME)
 
 
-def try_builds(check, folder):
-    """How `./strand` answers and builds, in this folder."""
+def try_builds(check, folder, commands):
+    """How `./strand` answers and builds, in this folder, with a quote in its path; with these commands."""
+    try_words(check, Repository(os.path.join(folder, "words'")), commands)
     for name, tried in (("bad", try_bad), ("good", try_good), ("differing", try_differing)):
-        tried(check, Repository(os.path.join(folder, name)))
+        tried(check, Repository(os.path.join(folder, f"{name}'")))
