@@ -10,8 +10,8 @@ use std::alloc::Global;
 use strand_base::{OutOfMemory, PERSISTENT_BASE};
 use strand_events::Event;
 
-// The place of a persistent word, by its address.
-pub(crate) fn persistent_place(word: u64) -> usize
+/// The place of a persistent word, by its address.
+pub fn persistent_place(word: u64) -> usize
     ensures { result ≡ persistent_place word }
 {
     (word.saturating_sub(PERSISTENT_BASE) / 8) as usize

@@ -43,7 +43,7 @@ pub(crate) fn mark_since(
 }
 
 /// For each event, one more than the place of the last edge to it, or 0.
-pub(crate) fn ends_of(alloc: Global, graph: &Graph) -> Result<Vec<usize>, OutOfMemory>
+pub fn ends_of(alloc: Global, graph: &Graph) -> Result<Vec<usize>, OutOfMemory>
     ensures { IfOk result (λ ends. AreEnds graph.now.mode graph.now.events
         (length (edges_of graph.now.mode graph.now.events)) ends.items) }
 {

@@ -9,7 +9,7 @@ use strand_base::{Numbers, OutOfMemory};
 use strand_events::Event;
 
 /// The event numbers of the persists.
-pub(crate) fn persists_of(alloc: Global, events: &[Event]) -> Result<Vec<u32>, OutOfMemory>
+pub fn persists_of(alloc: Global, events: &[Event]) -> Result<Vec<u32>, OutOfMemory>
     requires { length events.now < 2 ^ 32 }
     ensures { IfOk result (λ persists. persists.items ≡ persists_of events.now) }
 {

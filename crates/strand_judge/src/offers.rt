@@ -15,9 +15,9 @@ use strand_events::Event;
 /// For each word the first persist that has the value which was found there, and for each persist the next one to
 /// its word that does; each is one more than the event's number, or 0 where there is none.
 #[derive(Drop)]
-pub(crate) struct Offered {
-    pub(crate) firsts: Vec<u32>,
-    pub(crate) nexts: Vec<u32>,
+pub struct Offered {
+    pub firsts: Vec<u32>,
+    pub nexts: Vec<u32>,
 }
 
 // Notes event k.
@@ -41,7 +41,7 @@ fn note(offered: &mut Offered, e: Event, k: usize, found: &[u64])
 }
 
 /// Goes over the events from the last to the first.
-pub(crate) fn gather(alloc: Global, events: &[Event], found: &[u64]) -> Result<Offered, OutOfMemory>
+pub fn gather(alloc: Global, events: &[Event], found: &[u64]) -> Result<Offered, OutOfMemory>
     requires small { length events.now < 2 ^ 32 }
     requires within { LieIn events.now (length found.now) }
     ensures { IfOk result (λ o. (first : List ℕ)
@@ -60,7 +60,7 @@ pub(crate) fn gather(alloc: Global, events: &[Event], found: &[u64]) -> Result<O
 }
 
 /// One more than the persist that event j, which is e, asks for, or 0.
-pub(crate) fn asked(offered: &Offered, e: Event, j: usize, found: &[u64]) -> u32
+pub fn asked(offered: &Offered, e: Event, j: usize, found: &[u64]) -> u32
     requires place { is_persist e ≡ true → persistent_place (word_of e) < length found.now }
     requires nexts { j < length offered.now.nexts.items }
     ensures { result ≡ asked_of e j found.now offered.now.nexts.items }

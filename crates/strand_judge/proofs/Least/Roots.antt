@@ -34,22 +34,22 @@ pub record HoldsRoots (t : List Event) (crash : Crash) (set : Set) : Type 0 wher
   pub forced : (word q : ℕ) → IsForced t crash word q → set q ≡ true
 
 -- the last persist to a word that a set holds among the events below n, and what the image has from it
-record IsLast (t : List Event) (set : Set) (initial : ℕ → ℕ) (n word q : ℕ) : Type 0 where
-  within : q < n
-  persist : event_is is_persist t q ≡ true
-  to : word_at t q ≡ word
-  in_set : set q ≡ true
-  value : image_below t set initial n word ≡ value_at t q
-  none : (k : ℕ) → q < k → k < n → event_is is_persist t k ≡ true → word_at t k ≡ word → set k ≡ true → ⊥
+pub record IsLast (t : List Event) (set : Set) (initial : ℕ → ℕ) (n word q : ℕ) : Type 0 where
+  pub within : q < n
+  pub persist : event_is is_persist t q ≡ true
+  pub to : word_at t q ≡ word
+  pub in_set : set q ≡ true
+  pub value : image_below t set initial n word ≡ value_at t q
+  pub none : (k : ℕ) → q < k → k < n → event_is is_persist t k ≡ true → word_at t k ≡ word → set k ≡ true → ⊥
 
-record IsNone (t : List Event) (set : Set) (initial : ℕ → ℕ) (n word : ℕ) : Type 0 where
-  value : image_below t set initial n word ≡ initial word
-  none : (k : ℕ) → k < n → event_is is_persist t k ≡ true → word_at t k ≡ word → set k ≡ true → ⊥
+pub record IsNone (t : List Event) (set : Set) (initial : ℕ → ℕ) (n word : ℕ) : Type 0 where
+  pub value : image_below t set initial n word ≡ initial word
+  pub none : (k : ℕ) → k < n → event_is is_persist t k ≡ true → word_at t k ≡ word → set k ≡ true → ⊥
 
 sets_from : (t : List Event) (set : Set) (word k : ℕ) → event_is is_persist t k ≡ true → word_at t k ≡ word → set k ≡ true → sets_word t set word k ≡ true
 sets_from t set word k is to on = and_from (event_is is_persist t k && set k) (word_at t k == word) (and_from (event_is is_persist t k) (set k) is on) (eq-eqb (word_at t k) word to)
 
-last_or_none : (t : List Event) (set : Set) (initial : ℕ → ℕ) (n word : ℕ) → ((q : ℕ) × IsLast t set initial n word q) ⊎ IsNone t set initial n word
+pub last_or_none : (t : List Event) (set : Set) (initial : ℕ → ℕ) (n word : ℕ) → ((q : ℕ) × IsLast t set initial n word q) ⊎ IsNone t set initial n word
 last_or_none t set initial zero word = inr (record { value = refl; none = λ k lt. absurd (omega arith) })
 last_or_none t set initial (suc n) word = elim (cases_Bool (sets_word t set word n)) [
   | inl here ↦
@@ -95,7 +95,7 @@ last_or_none t set initial (suc n) word = elim (cases_Bool (sets_word t set word
 
 module _ (mode : Mode) (t : List Event) (crash : Crash) where
   -- what leads to a member of every settled set is in every settled set, where it is a persist
-  root_within : (k : ℕ) → event_is is_persist t k ≡ true → Root mode t crash k → (other : Set) → IsSettled mode t crash other → other k ≡ true
+  pub root_within : (k : ℕ) → event_is is_persist t k ≡ true → Root mode t crash k → (other : Set) → IsSettled mode t crash other → other k ≡ true
   root_within k is r other settled = elim r.path [
     | inl e ↦ ap other e ∙ r.needed other settled
     | inr path ↦ settled.allowed.closed k r.root is (path_before mode t k r.root (weaker is_persist is_access persist_access t k is) (weaker is_persist is_access persist_access t r.root r.persist) path) (r.needed other settled)

@@ -1,0 +1,3 @@
+-- Serves printed_certificates_are_read_again.
+pub mod Again
+pub mod Short
