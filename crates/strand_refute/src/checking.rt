@@ -4,16 +4,16 @@ ghost use Rattle.strand_events.specs.Order.{is_joined};
 ghost use Rattle.strand_events.specs.Places.{LieIn};
 ghost use Rattle.strand_judge.specs.Words.{crash_of};
 ghost use Rattle.strand_refute.specs.Checked.{IsChecked, SaysAccepted};
-ghost use Rattle.strand_refute.specs.Lines.{AreFacts};
+ghost use Rattle.strand_refute.specs.Facts.{AreFacts};
 
 use crate::certificate::Certificate;
-use crate::facts::{joined_marks, last_joins};
-use crate::lines::{Facts, is_accepted, is_accepted_ending};
+use crate::endings::is_accepted_ending;
+use crate::facts::{Facts, facts_of};
+use crate::lines::is_accepted;
 use std::alloc::Global;
 use strand_base::{Numbers, OutOfMemory};
 use strand_events::Trace;
 use strand_inputs::Mode;
-use strand_judge::{gather, persists_of};
 
 /// What a check says of a certificate.
 #[derive(Clone, Copy, Debug, PartialEq, Eq)]
@@ -23,26 +23,6 @@ pub enum Checked {
     /// The first line that isn't accepted, counted from 1 over the certificate's lines; one more than their number
     /// where all are and the last line is missing.
     Rejected { line: u64 },
-}
-
-// What the check looks up.
-fn facts_of(
-    alloc: Global,
-    trace: &Trace,
-    joined: &Numbers,
-    found: &[u64],
-) -> Result<Facts, OutOfMemory>
-    requires joined { joined.now ≡ numbers_of trace.now.events (is_joined trace.now.events) }
-    requires within { LieIn trace.now.events (length found.now) }
-    ensures { IfOk result (λ facts. AreFacts trace.now.events found.now facts) }
-{
-    let events = trace.events();
-    let persists = persists_of(alloc, events)?;
-    Ok(Facts {
-        joined: joined_marks(alloc, events, &persists, joined.as_slice())?,
-        joins: last_joins(alloc, events)?,
-        offered: gather(alloc, events, found)?,
-    })
 }
 
 // Goes along the lines, up to the first that isn't accepted.

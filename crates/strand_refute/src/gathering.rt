@@ -14,7 +14,7 @@ ghost use Rattle.strand_judge.specs.Ends.{leads_at, AreEnds, IsFollowed};
 ghost use Rattle.strand_judge.specs.Gathered.{AreJoined, AreForced, IsBrought, IsMarkedMore};
 ghost use Rattle.strand_judge.specs.Worklist.{IsListed};
 ghost use Rattle.strand_refute.specs.Work.{HasReason, KeepsExplained};
-ghost use Rattle.strand_refute.specs.Lines.{IsGathered};
+ghost use Rattle.strand_refute.specs.Facts.{IsGathered};
 
 use crate::certificate::Reason;
 use crate::work::{Work, need};
@@ -58,7 +58,8 @@ fn need_since(
     requires within { since ≤ length events.now }
     requires marks { length work.old.marks.items ≡ length events.now }
     requires targets { length work.old.targets.items ≡ length events.now }
-    ensures more { OnOk result (IsListed (length events.now) work.old.marks.items work.old.list.items
+    ensures more { OnOk result (IsListed (length events.now)
+        work.old.marks.items work.old.list.items
         → IsMarkedMore (length events.now) since work.old.marks.items work.old.list.items
         work.new.marks.items work.new.list.items) }
     ensures targets { OnOk result (length work.new.targets.items ≡ length events.now) }
@@ -162,7 +163,8 @@ pub(crate) fn serve(
         work.old.marks.items work.old.list.items work.new.marks.items work.new.list.items) }
     ensures targets { OnOk result (length work.new.targets.items ≡ length graph.now.events) }
     ensures explained { OnOk result ((first : List ℕ)
-        → KeepsExplained graph.now.mode graph.now.events (crash_of first found.now) work.old work.new) }
+        → KeepsExplained graph.now.mode graph.now.events (crash_of first found.now)
+        work.old work.new) }
 {
     follow(graph, ends[j as usize], j, work)?;
     let events = graph.events();

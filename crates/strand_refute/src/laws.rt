@@ -18,7 +18,8 @@ pub fn accepted_certificates_refute()
 /// The printed form of a certificate of at most 200,001 lines is read back to it (`again`), and has no more bytes than
 /// the file may have (`short`).
 pub fn printed_certificates_are_read_again()
-    ensures again { (c : CertificateSeen) → CertificateFits c → certificate_of (certificate_text c) ≡ Ok c }
+    ensures again { (c : CertificateSeen) → CertificateFits c
+        → certificate_of (certificate_text c) ≡ Ok c }
     ensures short { (c : CertificateSeen) → CertificateFits c
         → length (certificate_text c) ≤ MOST_CERTIFICATE_BYTES }
 {}

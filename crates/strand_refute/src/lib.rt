@@ -1,9 +1,10 @@
-//! Certificates of no: why a crash image may not have come from a run, written so that each step can be checked by
-//! itself, without the judge and without the graph.
+//! Certificates of no: why a crash image may not have come from a run, in lines of which each can be checked by itself,
+//! without the judge and without the graph (docs/certificates.md).
 #![tactic(auto)]
 
 mod certificate;
 mod checking;
+mod endings;
 mod facts;
 mod gathering;
 mod laws;

@@ -1,34 +1,24 @@
-// Whether a line of a certificate is accepted.
+// Whether a line that names an event is accepted.
 ghost use Rattle.std.specs.Prelude.{◌≡◌, ◌<◌, ◌↔◌, ◌^◌, true, ℕ, List, suc, length};
 ghost use Rattle.strand_events.specs.Order.{set_of};
 ghost use Rattle.strand_events.specs.Places.{LieIn};
 ghost use Rattle.strand_events.specs.Trace.{word_at};
 ghost use Rattle.strand_judge.specs.Words.{crash_of};
-ghost use Rattle.strand_judge.specs.Offered.{AreOffered, Asks, IsForced};
+ghost use Rattle.strand_judge.specs.Offered.{Asks, IsForced};
 ghost use Rattle.strand_inputs.specs.declared.mode.Mode.{Mode};
 ghost use Rattle.strand_refute.specs.declared.certificate.Reason.TheVariants.{Match};
-ghost use Rattle.strand_refute.specs.Accepted.{Holds, IsAcceptedEnding, IsAcceptedForced, IsNeverMade, IsNeverMadeAfter};
-ghost use Rattle.strand_events.specs.declared.event.Event.{Event};
-ghost use Rattle.strand_refute.specs.Lines.{AreFacts, HasAcceptedEnding, IsGathered};
+ghost use Rattle.strand_refute.specs.Accepted.{Holds, IsAcceptedForced};
+ghost use Rattle.strand_refute.specs.Facts.{AreFacts, IsGathered};
 
-use crate::certificate::{Ending, Forced, Reason};
+use crate::certificate::{Forced, Reason};
+use crate::facts::Facts;
 use crate::ordering::comes_directly_before;
-use strand_base::PERSISTENT_BASE;
 use strand_events::{Event, Trace};
 use strand_inputs::Mode;
 use strand_judge::{Offered, asked, persistent_place};
 
-/// What a check looks up: which events are joined persists, where the last join of each event's core before it ends,
-/// and which persists have the crash image's value.
-#[derive(Drop)]
-pub(crate) struct Facts {
-    pub(crate) joined: Vec<bool>,
-    pub(crate) joins: Vec<u32>,
-    pub(crate) offered: Offered,
-}
-
-// Whether event e, which a certificate names, is needed.
-fn is_needed(needed: &[bool], e: u32) -> bool
+/// Whether event e, which a certificate names, is needed. It takes no memory.
+pub(crate) fn is_needed(needed: &[bool], e: u32) -> bool
     ensures { result ≡ set_of needed.now e }
 {
     (e as usize) < needed.len() && needed[e as usize]
@@ -123,8 +113,7 @@ fn holds(
     }
 }
 
-/// Whether a line that names an event is accepted, where these events are needed. It takes no memory and constant
-/// time.
+/// Whether a line that names an event is accepted, where these events are needed. It takes no memory.
 pub(crate) fn is_accepted(
     trace: &Trace,
     mode: Mode,
@@ -138,94 +127,9 @@ pub(crate) fn is_accepted(
     requires same { length first.now ≡ length found.now }
     requires within { LieIn trace.now.events (length found.now) }
     requires facts { AreFacts trace.now.events found.now facts.now }
-    ensures { (result ≡ true) ↔ IsAcceptedForced mode trace.now.events (crash_of first.now found.now)
-        (set_of needed.now) line }
+    ensures { (result ≡ true) ↔ IsAcceptedForced mode trace.now.events
+        (crash_of first.now found.now) (set_of needed.now) line }
 {
     let e = line.event as usize;
     e < needed.len() && !needed[e] && holds(trace, mode, facts, first, found, needed, line)
-}
-
-// Whether no persist gives the crash image's value at the word, which isn't the initial one.
-fn is_never_made(offered: &Offered, first: &[u64], found: &[u64], word: u64) -> bool
-    requires same { length first.now ≡ length found.now }
-    requires long { length offered.now.firsts.items ≡ length found.now }
-    ensures { (t : List Event) → AreOffered t (crash_of first.now found.now) (length found.now) 0
-        offered.now.firsts.items offered.now.nexts.items
-        → (result ≡ true) ↔ IsNeverMade t (crash_of first.now found.now) word }
-{
-    let place = persistent_place(word);
-    if place >= found.len() || PERSISTENT_BASE + 8 * place as u64 != word {
-        return false;
-    }
-    first[place] != found[place] && offered.firsts[place] == 0
-}
-
-// Whether event last is a persist to the word without the crash image's value, and no later one to it has that.
-fn is_never_made_after(
-    events: &[Event],
-    offered: &Offered,
-    found: &[u64],
-    needed: &[bool],
-    word: u64,
-    last: u32,
-) -> bool
-    requires needed { length needed.now ≡ length events.now }
-    requires within { LieIn events.now (length found.now) }
-    requires offered { IsGathered events.now found.now offered.now }
-    ensures { (first : List ℕ) → (result ≡ true)
-        ↔ IsNeverMadeAfter events.now (crash_of first found.now) (set_of needed.now) word last }
-{
-    if !is_needed(needed, last) {
-        return false;
-    }
-    let event = events[last as usize];
-    if !event.is_persist() || event.word() != word {
-        return false;
-    }
-    event.value() != found[persistent_place(word)] && offered.nexts[last as usize] == 0
-}
-
-// Whether a last line is accepted, where these events are needed.
-fn ends(
-    events: &[Event],
-    offered: &Offered,
-    first: &[u64],
-    found: &[u64],
-    needed: &[bool],
-    ending: Ending,
-) -> bool
-    requires needed { length needed.now ≡ length events.now }
-    requires same { length first.now ≡ length found.now }
-    requires within { LieIn events.now (length found.now) }
-    requires offered { IsGathered events.now found.now offered.now }
-    ensures { (result ≡ true) ↔ IsAcceptedEnding events.now (crash_of first.now found.now)
-        (set_of needed.now) ending }
-{
-    match ending.last {
-        None => is_never_made(offered, first, found, ending.word),
-        Some(last) => is_never_made_after(events, offered, found, needed, ending.word, last),
-    }
-}
-
-/// Whether there is a last line and it is accepted, where these events are needed. It takes no memory and constant
-/// time.
-pub(crate) fn is_accepted_ending(
-    events: &[Event],
-    offered: &Offered,
-    first: &[u64],
-    found: &[u64],
-    needed: &[bool],
-    ending: Option<Ending>,
-) -> bool
-    requires needed { length needed.now ≡ length events.now }
-    requires same { length first.now ≡ length found.now }
-    requires within { LieIn events.now (length found.now) }
-    requires offered { IsGathered events.now found.now offered.now }
-    ensures { (result ≡ true) ↔ HasAcceptedEnding events.now (crash_of first.now found.now)
-        (set_of needed.now) ending }
-{
-    match ending {
-        None => false,
-        Some(ending) => ends(events, offered, first, found, needed, ending),
-    }
 }

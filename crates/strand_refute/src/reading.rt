@@ -182,7 +182,7 @@ fn add_line(c: &mut Certificate, line: u32, text: &[u8]) -> Result<(), InputFaul
 /// The certificate of a text.
 ///
 /// A line is `joined E`, `order E F`, `match E F`, `match E first`, `no H F` or `no H first`, where E and F are event
-/// numbers and H is an address in its sixteen lower-case hexadecimal digits (docs/FORMATS.md). The first line with a
+/// numbers and H is an address in its sixteen lower-case hexadecimal digits (docs/certificates.md). The first line with a
 /// fault decides: `BadLine` for any other line and for one behind a `no` line, then `Limit` for the first event number
 /// of more than 32 bits, then `Limit` with 200,002 for the line of that place among those with words. Lines are
 /// numbered from 1, so the text has fewer than 2^32 bytes.

@@ -15,6 +15,7 @@ use Rattle.strand_order.proofs.Paths.Path.{path_before}
 use Rattle.strand_order.proofs.Paths.Before.{before_path}
 use Rattle.strand_judge.specs.Judged.{Crash, Agrees, Offers, IsSettled, IsLeastSettled}
 use Rattle.strand_judge.proofs.Least.JoinedNumbers.{joined_persist}
+use Rattle.strand_judge.proofs.Least.Sets.{sets_from}
 use Rattle.strand_judge.specs.Offered.{IsFirstOffer, Asks, IsForced, IsServed}
 
 -- event i is s, or a path of edges leads from it to s
@@ -45,9 +46,6 @@ pub record IsLast (t : List Event) (set : Set) (initial : ℕ → ℕ) (n word q
 pub record IsNone (t : List Event) (set : Set) (initial : ℕ → ℕ) (n word : ℕ) : Type 0 where
   pub value : image_below t set initial n word ≡ initial word
   pub none : (k : ℕ) → k < n → event_is is_persist t k ≡ true → word_at t k ≡ word → set k ≡ true → ⊥
-
-sets_from : (t : List Event) (set : Set) (word k : ℕ) → event_is is_persist t k ≡ true → word_at t k ≡ word → set k ≡ true → sets_word t set word k ≡ true
-sets_from t set word k is to on = and_from (event_is is_persist t k && set k) (word_at t k == word) (and_from (event_is is_persist t k) (set k) is on) (eq-eqb (word_at t k) word to)
 
 pub last_or_none : (t : List Event) (set : Set) (initial : ℕ → ℕ) (n word : ℕ) → ((q : ℕ) × IsLast t set initial n word q) ⊎ IsNone t set initial n word
 last_or_none t set initial zero word = inr (record { value = refl; none = λ k lt. absurd (omega arith) })

@@ -59,10 +59,10 @@ last_sets t set initial word (suc n) k lt h = elim (cases_Bool (sets_word t set 
       (q.0, q.1, top, q.3, image_no t set initial n word none ∙ q.4)
 ]
 
-sets_from : (t : List Event) (set : Set) (word k : ℕ) → event_is is_persist t k ≡ true → word_at t k ≡ word → set k ≡ true → sets_word t set word k ≡ true
+pub sets_from : (t : List Event) (set : Set) (word k : ℕ) → event_is is_persist t k ≡ true → word_at t k ≡ word → set k ≡ true → sets_word t set word k ≡ true
 sets_from t set word k is to in_set = and_from (event_is is_persist t k && set k) (word_at t k == word) (and_from (event_is is_persist t k) (set k) is in_set) (eq-eqb (word_at t k) word to)
 
-sets_parts : (t : List Event) (set : Set) (word k : ℕ) → sets_word t set word k ≡ true → (event_is is_persist t k ≡ true) × (set k ≡ true) × (word_at t k ≡ word)
+pub sets_parts : (t : List Event) (set : Set) (word k : ℕ) → sets_word t set word k ≡ true → (event_is is_persist t k ≡ true) × (set k ≡ true) × (word_at t k ≡ word)
 sets_parts t set word k h =
     let one = and_parts (event_is is_persist t k && set k) (word_at t k == word) h in
     let two = and_parts (event_is is_persist t k) (set k) one.0 in

@@ -1,34 +1,26 @@
 -- Serves refute: the certificate of the least settled set, whose image differs from the crash image, is accepted.
-use Rattle.std.proofs.Common.{◌≡◌, ℕ, ◌<◌, Bool, true, ◌&&◌, inl, inr, List, Option, Some, None, length, refl, ap, ◌∙◌, arith}
-use Rattle.std.specs.Prelude.{◌==◌, slice_index_or, MatchOption}
+use Rattle.std.proofs.Common.{◌≡◌, ℕ, ◌<◌, Bool, true, inl, inr, List, Option, Some, None, length, refl, ap, ◌∙◌, arith}
+use Rattle.std.specs.Prelude.{slice_index_or, MatchOption}
 use Rattle.std.specs.Cmp.{both_ways as same_test}
-use Rattle.std.proofs.lemmas.Bool.{cases_lt, cases_order, and_parts, and_from, eqb-true, eq-eqb}
+use Rattle.std.proofs.lemmas.Bool.{cases_lt, cases_order}
 use Rattle.std.proofs.lemmas.Option.{slice_get-get_or}
 use Rattle.strand_inputs.specs.declared.mode.Mode.{Mode}
 use Rattle.strand_events.specs.declared.event.Event.{Event}
 use Rattle.strand_events.specs.Trace.{is_persist, is_access, word_at, value_at, event_is}
-use Rattle.strand_events.specs.Order.{Set, set_of, sets_word}
+use Rattle.strand_events.specs.Order.{Set, set_of}
 use Rattle.strand_events.proofs.EventWithin.{event_within}
 use Rattle.strand_events.proofs.PersistOrder.Epochs.{weaker, persist_access}
 use Rattle.strand_events.proofs.PersistOrder.Images.{image_alike}
 use Rattle.strand_judge.specs.Judged.{Crash, Agrees, IsLeastSettled}
 use Rattle.strand_judge.specs.Verdicts.{IsRefuted}
 use Rattle.strand_judge.proofs.Least.Roots.{last_or_none}
+use Rattle.strand_judge.proofs.Least.Sets.{sets_from, sets_parts}
 use Rattle.strand_refute.specs.declared.certificate.Reason.TheVariants.{Joined}
 use Rattle.strand_refute.specs.declared.certificate.Forced.{Forced}
 use Rattle.strand_refute.specs.Accepted.{needed_by, Ends}
 use Rattle.strand_refute.specs.Checked.{IsCertified}
 use Rattle.strand_refute.specs.Work.{IsExplained, IsNoneTo, IsLastTo}
 use Rattle.strand_refute.proofs.Checks.Sound.{few_lines, NamesAt}
-
-sets_from : (t : List Event) (set : Set) (word k : ℕ) → event_is is_persist t k ≡ true → word_at t k ≡ word → set k ≡ true → sets_word t set word k ≡ true
-sets_from t set word k is to on = and_from (event_is is_persist t k && set k) (word_at t k == word) (and_from (event_is is_persist t k) (set k) is on) (eq-eqb (word_at t k) word to)
-
-sets_parts : (t : List Event) (set : Set) (word k : ℕ) → sets_word t set word k ≡ true → (event_is is_persist t k ≡ true) × (set k ≡ true) × (word_at t k ≡ word)
-sets_parts t set word k h =
-    let one = and_parts (event_is is_persist t k && set k) (word_at t k == word) h in
-    let two = and_parts (event_is is_persist t k) (set k) one.0 in
-    (two.0, two.1, eqb-true (word_at t k) word one.1)
 
 module _ (mode : Mode) (t : List Event) (crash : Crash) (set : Set) (least : IsLeastSettled mode t crash set) (word rank : ℕ) (r : IsRefuted mode t crash word rank) where
   -- two least settled sets have the same persists

@@ -10,7 +10,7 @@ use Rattle.strand_events.specs.Trace.{is_persist, word_of}
 use Rattle.strand_events.specs.Order.{set_of}
 use Rattle.strand_judge.proofs.Least.Marks.{mark_within}
 use Rattle.strand_refute.proofs.Checks.Tests.{after_yes, after_parts, place_within}
-use Rattle.strand_refute.proofs.lines.is_never_made_after.Goals as goal
+use Rattle.strand_refute.proofs.endings.is_never_made_after.Goals as goal
 
 pub bounds-found-persistent_place : goal.bounds-found-persistent_place
 bounds-found-persistent_place c =

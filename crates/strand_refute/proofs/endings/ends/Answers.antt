@@ -2,7 +2,7 @@ use Rattle.std.proofs.Common.{◌≡◌, ◌↔◌, true, [], sym, subst}
 use Rattle.strand_events.specs.Order.{set_of}
 use Rattle.strand_judge.specs.Words.{crash_of}
 use Rattle.strand_refute.specs.Accepted.{Ends}
-use Rattle.strand_refute.proofs.lines.ends.Goals as goal
+use Rattle.strand_refute.proofs.endings.ends.Goals as goal
 
 pub is_never_made-requires-clause-long : goal.is_never_made-requires-clause-long
 is_never_made-requires-clause-long c = (c.requires.offered []).long
