@@ -21,11 +21,12 @@ use Rattle.strand_inputs.specs.Reading.{FailsInput}
 use Rattle.strand_inputs.specs.Settings.{Settings}
 use Rattle.strand_inputs.specs.declared.fault.InputFault.{InputFault}
 use Rattle.strand_inputs.specs.declared.fault.InputFault.TheVariants as input
+use Rattle.strand_refute.specs.declared.limits.TheConstants.{MOST_CERTIFICATE_BYTES}
 use Rattle.strand_report.specs.declared.refusal.ContentFault.{ContentFault}
 use Rattle.strand_report.specs.declared.refusal.ContentFault.TheVariants.{TooLong, Text, Image, Input}
 use Rattle.strand_app.specs.declared.fetching.OpenFault.{OpenFault}
 use Rattle.strand_app.specs.declared.fetching.OpenFault.TheVariants.{Fetch, Refused, OutOfMemory}
-use Rattle.strand_app.specs.Contents.{refused_as, length_limited, text_in, image_in, machine_in, schedule_in, crash_in}
+use Rattle.strand_app.specs.Contents.{refused_as, length_limited, text_in, image_in, machine_in, schedule_in, crash_in, certificate_in}
 use Rattle.strand_app.specs.Fetching.{FetchesBytes, IsSaid, FetchesFile}
 use Rattle.strand_app.specs.Opening.{open_fault}
 use Rattle.strand_app.specs.Reads.{in_file}
@@ -110,6 +111,10 @@ schedule_long g p bytes many = long MOST_FILE_BYTES Input bytes _ many
 pub crash_long : (p : ImageSeen) (bytes : List ℕ) → MOST_CRASH_BYTES < length bytes → crash_in p bytes ≡ Err (TooLong MOST_CRASH_BYTES)
 unfolding crash_in
 crash_long p bytes many = long MOST_CRASH_BYTES Input bytes _ many
+
+pub certificate_long : (bytes : List ℕ) → MOST_CERTIFICATE_BYTES < length bytes → certificate_in bytes ≡ Err (TooLong MOST_CERTIFICATE_BYTES)
+unfolding certificate_in
+certificate_long bytes many = long MOST_CERTIFICATE_BYTES Input bytes _ many
 
 -- a crash image of so many words has so many
 pub crash_words : (count : ℕ) (bytes words : List ℕ) → crash_words_of count bytes ≡ Ok words → length words ≡ count

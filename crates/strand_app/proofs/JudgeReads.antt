@@ -23,7 +23,7 @@ pub record AreThree (contents : Contents) : Type 0 where
   pub schedule : List ℕ
   pub are : contents ≡ machine ∷ image ∷ schedule ∷ []
 
-are_three : (contents : Contents) → length contents ≡ 3 → AreThree contents
+pub are_three : (contents : Contents) → length contents ≡ 3 → AreThree contents
 are_three [] e = absurd (omega (arith, e))
 are_three (a ∷ []) e = absurd (omega (arith, e))
 are_three (a ∷ b ∷ []) e = absurd (omega (arith, e))

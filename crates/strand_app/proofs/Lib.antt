@@ -2,6 +2,7 @@ pub mod FetchesFile
 pub mod OpensTo
 pub mod RunReads
 pub mod JudgeReads
+pub mod CheckReads
 pub mod RunsOnBank
 pub mod Comes
 pub mod GenCommands

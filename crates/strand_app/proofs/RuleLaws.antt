@@ -7,6 +7,9 @@ use Rattle.strand_judge.specs.Words.{crash_of}
 use Rattle.strand_judge.specs.declared.verdict.Verdict.{Verdict}
 use Rattle.strand_judge.specs.declared.verdict.Verdict.TheVariants.{Yes, No}
 use Rattle.strand_modules.specs.Bank.{BankSeen}
+use Rattle.strand_refute.specs.Checked.{IsChecked}
+use Rattle.strand_refute.specs.declared.checking.Checked.{Checked}
+use Rattle.strand_refute.specs.declared.checking.Checked.TheVariants.{Accepted, Rejected}
 use Rattle.strand_report.specs.Summary.{gen_line}
 use Rattle.strand_report.specs.Verdict.{verdict_text}
 use Rattle.strand_report.proofs.LastLine.{last_line}
@@ -18,9 +21,11 @@ use Rattle.strand_run.proofs.LeavesAllowed.{leaves_allowed, may_leave_allowed}
 use Rattle.strand_app.specs.declared.status.Status.{Status}
 use Rattle.strand_app.specs.declared.status.Status.TheVariants as status
 use Rattle.strand_app.specs.Causes.{EndsWith, TellsRefusal}
-use Rattle.strand_app.specs.Command.{Command, asm, list, upgrade, run, judge, trace, gen, gen_image, gen_schedule}
+use Rattle.strand_app.specs.Command.{Command, asm, list, upgrade, run, judge, refute, check, trace, gen, gen_image, gen_schedule}
+use Rattle.strand_app.specs.Commands.Check.{Claim, PutsChecked, RejectsClaim, checked_text, checked_status}
 use Rattle.strand_app.specs.Commands.Gen.{PutsGen, PutsSummary, RefutesHeld, gen_reads, gen_rule}
 use Rattle.strand_app.specs.Commands.Judge.{Question, PutsVerdict, RefutesCrash, verdict_status}
+use Rattle.strand_app.specs.Commands.Refute.{PutsRefutation, AllowsCrash}
 use Rattle.strand_app.specs.Commands.Run.{PutsReport}
 use Rattle.strand_app.specs.Commands.Trace.{PutsTrace}
 use Rattle.strand_app.specs.Machine.{PutsRun, machine_rule, stepping_rule}
@@ -127,6 +132,18 @@ verdict_meant q end text puts = subst (λ (s : Status). Meant (RefutesCrash q) s
     go (Yes members) is line = tt
     go (No word rank) is line = record { word = word; rank = rank; none = is.no; refuted = is.word; line = line }
 
+refutation_meant : (q : Question) (end : Status) (text : Text) → PutsRefutation q end text → Meant (AllowsCrash q) end text
+refutation_meant q status.Ok text puts = tt
+refutation_meant q status.No text puts = puts
+refutation_meant q _ text puts = absurd puts
+
+checked_meant : (q : Claim) (end : Status) (text : Text) → PutsChecked q end text → Meant (RejectsClaim q) end text
+checked_meant q end text puts = subst (λ (s : Status). Meant (RejectsClaim q) s text) (sym puts.status) (go puts.checked puts.is puts.line)
+  where
+    go : (checked : Checked) → IsChecked q.run.config.mode (visible_after q.run q.run.steps).trace (crash_of q.run.image.persistent q.crash) q.certificate checked → text ≡ checked_text checked → Meant (RejectsClaim q) (checked_status checked) text
+    go Accepted is line = tt
+    go (Rejected place) is line = record { place = place; first = is; line = line }
+
 -- a no of a generated run: its bank told no words
 summary_meant : (seed size : ℕ) (u : Inputs) (before : BankSeen) (end : Status) (text : Text) → PutsSummary seed size u before end text → Meant (RefutesHeld seed size u before) end text
 summary_meant seed size u before end text puts = subst (λ (s : Status). Meant (RefutesHeld seed size u before) s text) (sym puts.status) (go puts.summary.verdict refl)
@@ -176,6 +193,8 @@ sound_of (Some (list image)) before = still_sound _ _ _ _ before _
 sound_of (Some (upgrade image)) before = still_sound _ _ _ _ before _
 sound_of (Some (run machine image schedule stop)) before = machine_sound Inputs (λ u. u) PutsReport (λ u t. ⊥) _ _ before _ (λ u. report_meant u before)
 sound_of (Some (judge machine image schedule stop crash)) before = machine_sound Question (λ q. q.run) (λ q bank. PutsVerdict q) RefutesCrash _ _ before _ verdict_meant
+sound_of (Some (refute machine image schedule stop crash)) before = machine_sound Question (λ q. q.run) (λ q bank. PutsRefutation q) AllowsCrash _ _ before _ refutation_meant
+sound_of (Some (check machine image schedule stop crash certificate)) before = machine_sound Claim (λ q. q.run) (λ q bank. PutsChecked q) RejectsClaim _ _ before _ checked_meant
 sound_of (Some (trace machine image schedule stop)) before = machine_sound Inputs (λ u. u) PutsTrace (λ u t. ⊥) _ _ before _ (λ u. trace_meant u before)
 sound_of (Some (gen seed size)) before =
     stepping_sound Inputs (λ u. u) (gen_line seed size) (PutsGen seed size) (λ u. RefutesHeld seed size u before) [] (λ contents. gen_reads before.size seed size) before _ (gen_means seed size before _) (gen_answers seed size before)

@@ -31,7 +31,13 @@ use Rattle.strand_app.specs.declared.status.Made.{Made}
 use Rattle.strand_app.specs.declared.status.Status.{Status}
 use Rattle.strand_app.specs.declared.status.Status.TheVariants as status
 use Rattle.strand_app.specs.Commands.Judge.{PutsVerdict}
+use Rattle.strand_app.specs.declared.commands.check.Claim.{Claim as CodeClaim}
+use Rattle.strand_app.specs.Checking.{TellsChecked, claim_of}
+use Rattle.strand_app.specs.Commands.Check.{PutsChecked}
+use Rattle.strand_refute.specs.Checked.{IsChecked, SaysAccepted}
+use Rattle.strand_app.specs.Commands.Refute.{Answers, PutsRefutation}
 use Rattle.strand_app.specs.Judging.{TellsVerdict, question_of}
+use Rattle.strand_app.specs.Refuting.{TellsRefutation}
 use Rattle.strand_app.specs.Machine.{PutsRun}
 use Rattle.strand_app.specs.Opening.{inputs_of}
 use Rattle.strand_app.specs.Rule.{Text}
@@ -110,6 +116,28 @@ module _ (u : Inputs) (before after : BankSeen) where
       puts_whole (PutsVerdict (question_of q)) r made runs (record {
         judged = tells.judged;
         is = subst (λ (t : List Event). IsVerdict q.setup.files.config.mode t (crash_of q.setup.files.image.persistent q.crash) tells.judged) same tells.is;
+        line = tells.line;
+        status = tells.status;
+      })
+
+  -- a refutation by the trace of a run that met no refusal
+  pub refutation_on_bank : (q : CodeQuestion) → u ≡ inputs_of q.setup → (r : Run) (result : Result Made OutOfMemory) → RunsOnBank u before after (Whole r) → IfOk result (TellsRefutation q r)
+      → MakesOnBank u before after (PutsRefutation (question_of q)) result
+  refutation_on_bank q is r (Err e) runs tells = may_on_bank (Whole r) runs
+  refutation_on_bank q is r (Ok made) runs tells =
+      let same = subst (λ (x : Inputs). (view_of r).trace ≡ (visible_after x x.steps).trace) is (trace_is u before r runs.is.1 runs.is.2) in
+      puts_whole (PutsRefutation (question_of q)) r made runs (subst (λ (t : List Event). Answers q.setup.files.config.mode t (crash_of q.setup.files.image.persistent q.crash) made.status made.text.items) same tells)
+
+  -- what the check says by the trace of a run that met no refusal
+  pub checked_on_bank : (q : CodeClaim) → u ≡ inputs_of q.setup → (r : Run) (result : Result Made OutOfMemory) → RunsOnBank u before after (Whole r) → IfOk result (TellsChecked q r)
+      → MakesOnBank u before after (PutsChecked (claim_of q)) result
+  checked_on_bank q is r (Err e) runs tells = may_on_bank (Whole r) runs
+  checked_on_bank q is r (Ok made) runs tells =
+      let same = subst (λ (x : Inputs). (view_of r).trace ≡ (visible_after x x.steps).trace) is (trace_is u before r runs.is.1 runs.is.2) in
+      puts_whole (PutsChecked (claim_of q)) r made runs (record {
+        checked = tells.checked;
+        is = subst (λ (t : List Event). IsChecked q.setup.files.config.mode t (crash_of q.setup.files.image.persistent q.crash) q.certificate tells.checked) same tells.is;
+        none = subst (λ (t : List Event). SaysAccepted q.setup.files.config.mode t (crash_of q.setup.files.image.persistent q.crash) tells.checked) same tells.none;
         line = tells.line;
         status = tells.status;
       })

@@ -6,8 +6,10 @@ use Rattle.strand_modules.specs.Bank.{BankSeen}
 use Rattle.strand_app.specs.declared.command.Command.{Command as CodeCommand}
 use Rattle.strand_app.specs.declared.command.Command.TheVariants as code
 use Rattle.strand_app.specs.declared.command.RunWords.{RunWords}
-use Rattle.strand_app.specs.Command.{Command, command_of, asm, list, upgrade, run, judge, trace, gen, gen_image, gen_schedule}
+use Rattle.strand_app.specs.Command.{Command, command_of, asm, list, upgrade, run, judge, refute, check, trace, gen, gen_image, gen_schedule}
+use Rattle.strand_app.specs.Commands.Check.{check_rule}
 use Rattle.strand_app.specs.Commands.Judge.{judge_rule}
+use Rattle.strand_app.specs.Commands.Refute.{refute_rule}
 use Rattle.strand_app.specs.Commands.Run.{run_rule}
 use Rattle.strand_app.specs.Commands.Trace.{trace_rule}
 use Rattle.strand_app.specs.Rule.{Rule}
@@ -19,6 +21,8 @@ view (code.List image) = list image.now
 view (code.Upgrade image) = upgrade image.now
 view (code.Run words) = run words.machine.now words.image.now words.schedule.now words.stop
 view (code.Judge words crash) = judge words.machine.now words.image.now words.schedule.now words.stop crash.now
+view (code.Refute words crash) = refute words.machine.now words.image.now words.schedule.now words.stop crash.now
+view (code.Check words crash certificate) = check words.machine.now words.image.now words.schedule.now words.stop crash.now certificate.now
 view (code.Trace words) = trace words.machine.now words.image.now words.schedule.now words.stop
 view (code.Gen seed size) = gen seed size
 view (code.GenImage seed size) = gen_image seed size
@@ -30,6 +34,12 @@ run_rule_in words = run_rule words.machine.now words.image.now words.schedule.no
 
 abbrev pub judge_rule_in : RunWords → List ℕ → BankSeen → Rule
 judge_rule_in words crash = judge_rule words.machine.now words.image.now words.schedule.now words.stop crash
+
+abbrev pub refute_rule_in : RunWords → List ℕ → BankSeen → Rule
+refute_rule_in words crash = refute_rule words.machine.now words.image.now words.schedule.now words.stop crash
+
+abbrev pub check_rule_in : RunWords → (crash certificate : List ℕ) → BankSeen → Rule
+check_rule_in words crash certificate = check_rule words.machine.now words.image.now words.schedule.now words.stop crash certificate
 
 abbrev pub trace_rule_in : RunWords → BankSeen → Rule
 trace_rule_in words = trace_rule words.machine.now words.image.now words.schedule.now words.stop

@@ -2,6 +2,8 @@ pub mod Asm
 pub mod List
 pub mod Run
 pub mod Judge
+pub mod Refute
+pub mod Check
 pub mod Trace
 pub mod Gen
 pub mod GenImage

@@ -10,6 +10,9 @@ use Rattle.strand_inputs.specs.Machine.{machine}
 use Rattle.strand_inputs.specs.Schedule.{schedule_of}
 use Rattle.strand_inputs.specs.Settings.{Settings}
 use Rattle.strand_inputs.specs.declared.step.Step.{Step}
+use Rattle.strand_refute.specs.CertificateSeen.{CertificateSeen}
+use Rattle.strand_refute.specs.Grammar.{certificate_of}
+use Rattle.strand_refute.specs.declared.limits.TheConstants.{MOST_CERTIFICATE_BYTES}
 use Rattle.strand_report.specs.declared.refusal.ContentFault.{ContentFault}
 use Rattle.strand_report.specs.declared.refusal.ContentFault.TheVariants.{TooLong, Text, Image, Input}
 
@@ -38,3 +41,6 @@ schedule_in config image bytes = length_limited MOST_FILE_BYTES Input bytes (sch
 -- a crash image, of as many words as the image has persistent words
 unfoldable pub crash_in : ImageSeen → List ℕ → Result (List ℕ) ContentFault
 crash_in image bytes = length_limited MOST_CRASH_BYTES Input bytes (crash_words_of (length image.persistent) bytes)
+
+unfoldable pub certificate_in : List ℕ → Result CertificateSeen ContentFault
+certificate_in bytes = length_limited MOST_CERTIFICATE_BYTES Input bytes (certificate_of bytes)

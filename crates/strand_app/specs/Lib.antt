@@ -24,5 +24,7 @@ pub mod Opening
 pub mod CutOff
 pub mod Running
 pub mod Judging
+pub mod Refuting
+pub mod Checking
 pub mod Summing
 pub mod CommandView

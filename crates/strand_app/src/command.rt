@@ -1,6 +1,6 @@
 ghost use Rattle.std.specs.Prelude.{◌≡◌};
 ghost use Rattle.std.specs.Option.{option_map};
-ghost use Rattle.strand_app.specs.Command.{one_file, two_numbers, three_files, four_files};
+ghost use Rattle.strand_app.specs.Command.{one_file, two_numbers, three_files, four_files, five_files};
 ghost use Rattle.strand_app.specs.CommandView.{command_asked, view};
 ghost use Rattle.strand_inputs.specs.Machine.{decimal_in};
 
@@ -20,6 +20,14 @@ pub enum Command<'a> {
     Run { words: RunWords<'a> },
     /// `judge MACHINE IMAGE SCHEDULE STOP CRASH`: the verdict on a crash image.
     Judge { words: RunWords<'a>, crash: &'a str },
+    /// `refute MACHINE IMAGE SCHEDULE STOP CRASH`: a certificate of no on a crash image.
+    Refute { words: RunWords<'a>, crash: &'a str },
+    /// `check MACHINE IMAGE SCHEDULE STOP CRASH CERT`: whether such a certificate is accepted.
+    Check {
+        words: RunWords<'a>,
+        crash: &'a str,
+        certificate: &'a str,
+    },
     /// `trace MACHINE IMAGE SCHEDULE STOP`: the events of a run, and the edges of their graph.
     Trace { words: RunWords<'a> },
     /// `gen SEED SIZE`: the summary of a generated run.
@@ -113,15 +121,36 @@ fn four_files<'a>(
     ensures { option_map view result
         ≡ four_files word.now machine.now image.now schedule.now crash.now stop }
 {
+    let words = RunWords {
+        machine,
+        image,
+        schedule,
+        stop,
+    };
     if word == "judge" {
-        Some(Command::Judge {
+        Some(Command::Judge { words, crash })
+    } else if word == "refute" {
+        Some(Command::Refute { words, crash })
+    } else {
+        None
+    }
+}
+
+// A command of these and a certificate.
+fn five_files<'a>(
+    word: &str,
+    words: RunWords<'a>,
+    crash: &'a str,
+    certificate: &'a str,
+) -> Option<Command<'a>>
+    ensures { option_map view result
+        ≡ five_files word.now words.entry.machine.now words.entry.image.now words.entry.schedule.now crash.now certificate.now words.entry.stop }
+{
+    if word == "check" {
+        Some(Command::Check {
+            words,
             crash,
-            words: RunWords {
-                machine,
-                image,
-                schedule,
-                stop,
-            },
+            certificate,
         })
     } else {
         None
@@ -159,6 +188,15 @@ pub fn read_command(words: &[String]) -> Option<Command<'_>>
                 stop,
                 crash.as_str(),
             )
+        }
+        [word, machine, image, schedule, stop, crash, certificate] => {
+            let words = RunWords {
+                machine: machine.as_str(),
+                image: image.as_str(),
+                schedule: schedule.as_str(),
+                stop: read_stop(stop.as_str())?,
+            };
+            five_files(word.as_str(), words, crash.as_str(), certificate.as_str())
         }
         _ => None,
     }

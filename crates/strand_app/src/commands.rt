@@ -1,9 +1,11 @@
 pub mod asm;
+pub mod check;
 pub mod gen_image;
 pub mod gen_run;
 pub mod gen_schedule;
 pub mod judge;
 pub mod list;
+pub mod refute;
 pub mod run;
 pub mod trace;
 pub mod upgrade;

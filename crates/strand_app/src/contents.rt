@@ -2,10 +2,11 @@
 // command, from 1.
 ghost use Rattle.std.specs.Prelude.{◌≡◌, ◌≤◌, length, All, IfOk};
 ghost use Rattle.strand_app.specs.declared.file_sizes.TheConstants.{MOST_MACHINE_BYTES, MOST_FILE_BYTES, MOST_IMAGE_BYTES, MOST_CRASH_BYTES};
-ghost use Rattle.strand_app.specs.Contents.{crash_in, image_in, machine_in, schedule_in, text_in};
+ghost use Rattle.strand_app.specs.Contents.{certificate_in, crash_in, image_in, machine_in, schedule_in, text_in};
 ghost use Rattle.strand_app.specs.Fetching.{FetchesFile, IsSaid};
 ghost use Rattle.strand_app.specs.Opening.{open_fault};
 ghost use Rattle.strand_inputs.specs.Schedule.{IsBelow};
+ghost use Rattle.strand_refute.specs.declared.limits.TheConstants.{MOST_CERTIFICATE_BYTES};
 
 use crate::fetching::{OpenFault, fetch};
 use crate::file_sizes::{MOST_CRASH_BYTES, MOST_FILE_BYTES, MOST_IMAGE_BYTES, MOST_MACHINE_BYTES};
@@ -14,6 +15,7 @@ use strand_asm::{AsmFault, assemble};
 use strand_base::Files;
 use strand_image::{Image, ImageFault, read_image};
 use strand_inputs::{Config, InputFault, Schedule, Words, read_crash, read_machine, read_schedule};
+use strand_refute::{Certificate, MOST_CERTIFICATE_BYTES, read_certificate};
 use strand_report::{ContentFault, Refusal};
 
 // Why file k is not known to say something: want of memory is no fault of a content.
@@ -131,6 +133,29 @@ pub fn fetch_crash<F: Files>(
 {
     let bytes = fetch(alloc, 4, name, MOST_CRASH_BYTES, files)?;
     crash_of(alloc, image, &bytes)
+}
+
+fn certificate_of(alloc: Global, bytes: &[u8]) -> Result<Certificate, OpenFault>
+    requires { length bytes.now ≤ MOST_CERTIFICATE_BYTES }
+    ensures { IsSaid 5 (λ certificate. certificate) (certificate_in bytes.now) result }
+{
+    match read_certificate(alloc, bytes) {
+        Ok(certificate) => Ok(certificate),
+        Err(fault) => Err(open_fault(5, ContentFault::Input(fault))),
+    }
+}
+
+/// The certificate of a file, file 5 of its command.
+pub fn fetch_certificate<F: Files>(
+    alloc: Global,
+    name: &str,
+    files: &mut F,
+) -> Result<Certificate, OpenFault>
+    ensures { FetchesFile 5 certificate_in (λ certificate. certificate) name.now
+        (F.seen files.old) (F.seen files.new) result }
+{
+    let bytes = fetch(alloc, 5, name, MOST_CERTIFICATE_BYTES, files)?;
+    certificate_of(alloc, &bytes)
 }
 
 fn text_of(alloc: Global, bytes: &[u8]) -> Result<Image, OpenFault>

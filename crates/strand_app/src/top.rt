@@ -16,11 +16,13 @@ ghost use Rattle.strand_report.specs.declared.refusal.Refusal.{Refusal};
 
 use crate::command::{Command, read_command};
 use crate::commands::asm::asm_text;
+use crate::commands::check::check_claim;
 use crate::commands::gen_image::image_generated;
 use crate::commands::gen_run::judge_generated;
 use crate::commands::gen_schedule::schedule_generated;
 use crate::commands::judge::judge_crash;
 use crate::commands::list::list_image;
+use crate::commands::refute::refute_crash;
 use crate::commands::run::report_run;
 use crate::commands::trace::trace_run;
 use crate::commands::upgrade::upgrade_image;
@@ -158,6 +160,12 @@ fn make<F: Files>(
         Command::Upgrade { image } => upgrade_image(alloc, image, files),
         Command::Run { words } => report_run(alloc, words, files, bank),
         Command::Judge { words, crash } => judge_crash(alloc, words, crash, files, bank),
+        Command::Refute { words, crash } => refute_crash(alloc, words, crash, files, bank),
+        Command::Check {
+            words,
+            crash,
+            certificate,
+        } => check_claim(alloc, words, crash, certificate, files, bank),
         Command::Trace { words } => trace_run(alloc, words, files, bank),
         Command::Gen { seed, size } => judge_generated(alloc, seed, size, bank),
         Command::GenImage { seed, size } => image_generated(alloc, seed, size),

@@ -30,7 +30,8 @@ pub struct Question {
     pub crash: Words,
 }
 
-fn open_question<F: Files>(
+/// Opens the files of a question, and cuts the steps off.
+pub fn open_question<F: Files>(
     alloc: Global,
     words: RunWords<'_>,
     crash: &str,

@@ -15,6 +15,12 @@ returns-in-Run g c = rw c.in-Run.is c.report_run.ensures
 pub returns-in-Judge : goal.returns-in-Judge
 returns-in-Judge g c = rw c.in-Judge.is c.judge_crash.ensures
 
+pub returns-in-Refute : goal.returns-in-Refute
+returns-in-Refute g c = rw c.in-Refute.is c.refute_crash.ensures
+
+pub returns-in-Check : goal.returns-in-Check
+returns-in-Check g c = rw c.in-Check.is c.check_claim.ensures
+
 pub returns-in-Trace : goal.returns-in-Trace
 returns-in-Trace g c = rw c.in-Trace.is c.trace_run.ensures
 
