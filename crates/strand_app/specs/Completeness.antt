@@ -21,7 +21,7 @@ pub record IsQuiet (before after : Outside) : Type 0 where
 abbrev pub NothingIsRefused : Rule → Outside → Type 0
 NothingIsRefused r before = (contents : Contents) (refused : Refusal) → Says r.names r.opens before.world.files.told contents (Err refused) → ⊥
 
--- Ok, or a judge's no.
+-- Ok, or a no.
 abbrev pub IsAnswer : Status → Type 0
 IsAnswer result = (result ≡ status.Ok) ⊎ (result ≡ status.No)
 

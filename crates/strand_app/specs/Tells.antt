@@ -10,7 +10,7 @@ use Rattle.strand_app.specs.Files.{Opened, Missed, Unread}
 use Rattle.strand_app.specs.Rule.{Rule, Text, ShownBy}
 use Rattle.strand_app.specs.World.{Outside}
 
--- A command's text was put whole: a judge may have said no, and a module may have refused.
+-- A command's text was put whole: the answer may be no, and a module may have refused.
 abbrev pub IsTold : Status → Type 0
 IsTold result = (result ≡ status.Ok) ⊎ ((result ≡ status.No) ⊎ (result ≡ status.ModuleFault))
 
@@ -27,7 +27,7 @@ module _ (r : Rule) (before after : Outside) where
     pub puts : r.Puts found fault result text
     pub holds : r.Holds found fault after.world.bank
 
-  -- The answer is no, and this is what it says.
+  -- The answer is no, and this is what it says: of `judge` and `gen` that no set is judged, of `refute` that one is, of `check` that a line isn't accepted.
   pub record Refutes : Type 0 where
     pub found : r.Found
     pub opened : Opened r.names r.opens before.world.files after.world.files (Ok found)

@@ -6,7 +6,7 @@ ghost use Rattle.strand_app.specs.StatusCode.{exit_code_of};
 pub enum Status {
     /// The command's text was put.
     Ok,
-    /// A judge's answer was no.
+    /// The answer was no: of `judge` and `gen`, of `refute` or of `check` (docs/program.md).
     No,
     /// The words are no command.
     Words,

@@ -83,7 +83,8 @@ pub fn strand_main<F: Files, K: Sink>(
         (outside (F.seen files.old) (bank_seen holds bank.old) (K.seen out.old))
         (outside (F.seen files.new) (bank_seen holds bank.new) (K.seen out.new)) result }
 
-    // Where nothing is refused and no count rises, memory ran out, or the whole text was put.
+    // Where nothing is refused and no count rises, memory ran out, or the whole text was put: at No exactly as the rule
+    // says.
     ensures completeness { (command_asked words.now ≡ None → ⊥)
         → IsQuiet (outside (F.seen files.old) (bank_seen holds bank.old) (K.seen out.old))
         (outside (F.seen files.new) (bank_seen holds bank.new) (K.seen out.new))
@@ -98,7 +99,8 @@ pub fn strand_main<F: Files, K: Sink>(
     ensures no_command { command_asked words.now ≡ None
         → Ends Status.Words words_fault (K.seen out.old) (K.seen out.new) result }
 
-    // A judge's no comes only where no set that the order allows has the crash image.
+    // No comes only where `judge` or `gen` has no judged set, where `refute` has one, or where `check` rejects: and
+    // word and rank, the least set, or the line's number show it.
     ensures no { result ≡ Status.No → Refutes (asked_rule words.now (bank_seen holds bank.old))
         (outside (F.seen files.old) (bank_seen holds bank.old) (K.seen out.old))
         (outside (F.seen files.new) (bank_seen holds bank.new) (K.seen out.new)) }
