@@ -1,38 +1,41 @@
-use Rattle.std.proofs.Common.{◌+◌, ◌++◌, ◌∷◌, [], ℕ, List, subst, drop, get_or, arith}
+use Rattle.std.proofs.Common.{◌≡◌, ◌+◌, ◌++◌, ◌≤◌, length, map, drop, get_or, arith}
 use Rattle.std.proofs.lemmas.Result.{err_from_is_err_and}
-use Rattle.strand_base.proofs.AppendsFront.{SoFar, puts_after, so_far_more, so_far_none, so_far_stops}
-use Rattle.strand_asm.specs.Listing.{data_lines, lines_text, space_text, word_text}
-use Rattle.strand_asm.proofs.ListText.{data_end, data_word, data_zero}
+use Rattle.strand_base.proofs.AppendsFront.{puts_after, so_far_none, so_far_more, so_far_stops}
+use Rattle.strand_asm.specs.Listing.{data_lines, data_texts, lines_text, names_at, names_lines, past_names, past_word, word_lines}
+use Rattle.strand_asm.proofs.ListText.{data_more, data_end, past_names_least, past_word_least}
 use Rattle.strand_asm.proofs.listing.put_data.Goals as goal
-use Rattle.strand_asm.proofs.listing.put_data.Goals.{then-word-eq0, else-word-eq0+in_ok-put_data_word}
 
-pub loop-word-init : goal.loop-word-init
-loop-word-init c = (omega arith, so_far_none _ _)
+pub loop-place-init : goal.loop-place-init
+loop-place-init c = record { few = omega arith; told = so_far_none _ _ }
 
-pub returns-in_err-put_data_word : goal.returns-in_err-put_data_word
-returns-in_err-put_data_word c =
+pub returns-in_err-zeros : goal.returns-in_err-zeros
+unfolding data_lines
+returns-in_err-zeros c =
     let p = err_from_is_err_and c.from_residual.result c.from_residual.ensures.1 in
-    let ws = c.args.words.now in
-    let i = c.loop-word.word-index in
-    rw p.1 (so_far_stops _ _ (lines_text (space_text c.loop-word.zeros ++ word_text 0 (get_or ws i 0) ∷ [])) (lines_text (data_lines 0 (drop (i + 1) ws))) _ _ _ c.loop-word.invariant.1 (data_word c.loop-word.zeros ws i (omega arith) c.if-word-eq0.false) c.in_err-put_data_word.ensures)
+    let names = names_at c.args.symbols.now c.args.region in
+    let i = c.loop-place.place in
+    let w = get_or c.args.words.now i 0 in
+    let left = past_names c.loop-place.zeros (names i) in
+    rw p.1 (so_far_stops _ _ (lines_text (names_lines c.loop-place.zeros (names i) ++ word_lines left w)) (lines_text (data_texts names (i + 1) (past_word left w) (drop (i + 1) c.args.words.now))) _ _ _
+    c.loop-place.invariant.told (data_more names c.loop-place.zeros c.args.words.now i (omega arith)) (rw c.standing_at-names.ensures at c.in_err-zeros.ensures.text))
 
-pub loop-word-preserved : goal.loop-word-preserved
-loop-word-preserved c =
-    let ws = c.args.words.now in
-    let i = c.loop-word.word-index in
-    elim c.if-word-eq0.branch [
-      | then-word-eq0 w ↦ (
-        omega (arith, w.zeros-is, c.loop-word.invariant.0),
-        rw (w.zeros-is, w.into-is) (subst (λ (ls : List (List ℕ)). SoFar (lines_text (data_lines 0 ws)) (lines_text ls) c.args.into.now.items c.loop-word.into.items) (data_zero c.loop-word.zeros ws i (omega arith) w.if-word-eq0.true) c.loop-word.invariant.1),
-      )
-      | else-word-eq0+in_ok-put_data_word w ↦ (
-        omega (arith, w.zeros-is),
-        rw (w.zeros-is, w.into-is) (so_far_more _ _ (lines_text (space_text c.loop-word.zeros ++ word_text 0 (get_or ws i 0) ∷ [])) (lines_text (data_lines 0 (drop (i + 1) ws))) _ _ _ c.loop-word.invariant.1 (data_word c.loop-word.zeros ws i (omega arith) w.if-word-eq0.false) w.in_ok-put_data_word.ensures),
-      )
-    ]
+pub loop-place-preserved : goal.loop-place-preserved
+loop-place-preserved c =
+    let names = names_at c.args.symbols.now c.args.region in
+    let i = c.loop-place.place in
+    let w = get_or c.args.words.now i 0 in
+    let left = past_names c.loop-place.zeros (names i) in
+    let zeros : c.in_ok-zeros.zeros ≡ past_word left w = rw c.standing_at-names.ensures at c.in_ok-zeros.ensures.left in
+    record {
+      few = let a = past_names_least c.loop-place.zeros (names i) in let b = past_word_least left w in let c' = c.loop-place.invariant.few in omega arith;
+      told = rw zeros (so_far_more _ _ (lines_text (names_lines c.loop-place.zeros (names i) ++ word_lines left w)) (lines_text (data_texts names (i + 1) (past_word left w) (drop (i + 1) c.args.words.now))) _ _ _
+          c.loop-place.invariant.told (data_more names c.loop-place.zeros c.args.words.now i (omega arith)) (rw c.standing_at-names.ensures at c.in_ok-zeros.ensures.text));
+    }
 
 pub returns : goal.returns
+unfolding data_lines
 returns c =
-    let ws = c.args.words.now in
-    let h = c.loop-word.invariant.1 in
-    rw h.parts (puts_after c.put_space.result h.done _ _ _ _ h.appended (rw (data_end c.loop-word.zeros ws c.loop-word.word-index (omega arith)) c.put_space.ensures))
+    let names = names_at c.args.symbols.now c.args.region in
+    let h = c.loop-place.invariant.told in
+    let end : c.loop-place.place ≡ length c.args.words.now = omega arith in
+    rw h.parts (puts_after c.put_space_and_names.result h.done _ _ _ _ h.appended (rw (data_end names c.loop-place.zeros c.args.words.now c.loop-place.place (omega arith), end) (rw c.standing_at-names-2.ensures at c.put_space_and_names.ensures)))

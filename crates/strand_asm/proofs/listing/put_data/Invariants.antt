@@ -1,9 +1,10 @@
 use Rattle.std.proofs.Common.{◌≤◌, drop}
 use Rattle.strand_base.proofs.AppendsFront.{SoFar}
-use Rattle.strand_asm.specs.Listing.{data_lines, lines_text}
+use Rattle.strand_asm.specs.Listing.{data_texts, lines_text, names_at}
 use Rattle.strand_asm.proofs.listing.put_data.Given as goal
 
-abbrev pub invariant-loop-word : goal.invariant-loop-word
-invariant-loop-word l =
-    (l.zeros ≤ l.word-index)
-    × SoFar (lines_text (data_lines 0 l.words)) (lines_text (data_lines l.zeros (drop l.word-index l.words))) l.fn.into.items l.into.items
+abbrev pub invariant-loop-place : goal.invariant-loop-place
+invariant-loop-place l = record {
+  few : l.zeros ≤ l.place;
+  told : SoFar (lines_text (data_texts (names_at l.symbols l.region) 0 0 l.words)) (lines_text (data_texts (names_at l.symbols l.region) l.place l.zeros (drop l.place l.words))) l.fn.into.items l.into.items;
+}
