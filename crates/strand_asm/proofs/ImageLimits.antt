@@ -17,8 +17,8 @@ use Rattle.strand_asm.specs.declared.layout.Layout.{Layout}
 use Rattle.strand_asm.specs.Layout.{layout_of, empty_layout}
 use Rattle.strand_asm.specs.DraftSeen.{DraftSeen}
 use Rattle.strand_asm.specs.Draft.{blank, draft_of}
-use Rattle.strand_asm.specs.Assemble.{AreLabels, limit_check, cores_of_entries, label_symbols, limited, entered, with_entry, with_symbols}
-use Rattle.strand_asm.proofs.LabelSymbols.{IsCounted, are_labels, label_symbols_stand, symbols_long}
+use Rattle.strand_asm.specs.Assemble.{AreLabels, limit_check, cores_of_entries, label_symbols, limited, entered, with_symbols}
+use Rattle.strand_asm.proofs.LabelSymbols.{are_labels, label_symbols_stand, symbols_long}
 use Rattle.strand_asm.proofs.ListAgain.Lines.{and_both}
 use Rattle.strand_asm.proofs.PassCounts.{Agrees, both, lines_agree}
 
@@ -89,12 +89,12 @@ one_word : (n : ℕ) → is_within Code n ≡ true → 1 ≤ n
 one_word n e = grind (arith, nat_tests)
 
 pub fits : (text : List ℕ) (layout : Layout) (draft : DraftSeen) → layout_of text ≡ Ok layout → limited layout ≡ Ok tt → draft_of layout text ≡ Ok draft
-    → let p = with_symbols layout.labels (with_entry draft.parts) in image.checked_image p ≡ Ok p
+    → let p = with_symbols (label_symbols layout.labels) draft.parts in image.checked_image p ≡ Ok p
 fits text layout draft e g f =
     let h = agrees text layout draft e f in
     let l = limits layout g in
     let code_entries = entries_in draft.parts.entries layout.code h.entries_within (one_word layout.code l.code_pass) in
-    let p = with_symbols layout.labels (with_entry draft.parts) in
+    let p = with_symbols (label_symbols layout.labels) draft.parts in
     makes p (label_symbols_stand text layout p e (record { code_words = h.code_count; volatile_words = h.volatile_count; persistent_words = h.persistent_count }))
     (limits_pass _ _ _ _ _
     (ap (is_within Cores) (entry_count draft.parts.entries layout.cores h.entries_count) ∙ l.cores_pass)

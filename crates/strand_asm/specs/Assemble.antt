@@ -40,9 +40,6 @@ abbrev pub entered : List ℕ → List ℕ
 entered [] = 0 ∷ []
 entered (e ∷ es) = e ∷ es
 
-abbrev pub with_entry : ImageSeen → ImageSeen
-with_entry p = record p { entries = entered p.entries }
-
 -- Each label is a symbol, and they stand in the image's order.
 abbrev pub region_of : Section → Region
 region_of sections.Code = regions.Code
@@ -61,8 +58,9 @@ pub record AreLabels (labels : List (List ℕ × Place)) : Type 0 where
   pub places : (k : ℕ) (d : List ℕ × Place) → k < length labels → (slice_index_or labels k d).1.index < 2 ^ 32
   pub differ : AllPairs (λ a b. bytes_eq a.0 b.0 ≡ false) labels
 
-abbrev pub with_symbols : List (List ℕ × Place) → ImageSeen → ImageSeen
-with_symbols labels p = record p { symbols = label_symbols labels }
+-- the image of a draft
+abbrev pub with_symbols : List Symbol → ImageSeen → ImageSeen
+with_symbols symbols p = record p { entries = entered p.entries; symbols = symbols }
 
 -- First the lines in order, then the limits, then the numbers and names in order.
 unfoldable pub assembled : List ℕ → Result ImageSeen AsmFault
@@ -70,4 +68,4 @@ assembled text = do
   layout ← layout_of text
   all ← limited layout
   draft ← draft_of layout text
-  Ok (with_symbols layout.labels (with_entry draft.parts))
+  Ok (with_symbols (label_symbols layout.labels) draft.parts)

@@ -1,11 +1,12 @@
 -- The listing of an image: its entries, and then its three sections.
-use Rattle.std.specs.Prelude.{◌≡◌, ℕ, zero, suc, ◌+◌, ◌==◌, ◌&&◌, ◌||◌, nat_lt, Bool, List, [], ◌∷◌, ◌++◌, map, drop, Option, Some, None, IfSome}
+use Rattle.std.specs.Prelude.{◌≡◌, ℕ, zero, suc, ◌<◌, ◌+◌, ◌==◌, ◌&&◌, ◌||◌, nat_lt, Bool, List, [], ◌∷◌, ◌++◌, length, map, drop, slice_index, Option, Some, None, Result, IfSome}
 use Rattle.std.specs.Fmt.{decimal}
 use Rattle.std.specs.List.{AllPairs, filter, flat_map}
 use Rattle.std.specs.Option.{option_and_then}
 use Rattle.std.specs.declared.cmp.Ordering.TheVariants.{Less}
 use lib.Chars.{codes}
 use Rattle.strand_base.specs.Hexadecimal.{hex16}
+use Rattle.strand_base.specs.Puts.{Puts}
 use Rattle.strand_isa.specs.Decode.{instr_of}
 use Rattle.strand_isa.specs.Print.{instr_text}
 use Rattle.strand_isa.specs.Word.{IsValid, instr_word}
@@ -47,7 +48,13 @@ name_text s = s.name ++ codes ":"
 abbrev pub names_at : List Symbol → Region → ℕ → List (List ℕ)
 names_at symbols region at = map name_text (filter (stands_at region at) symbols)
 
+abbrev pub name_texts : List Symbol → List (List ℕ)
+name_texts symbols = map name_text symbols
+
 -- Before each code word stand the names of its place, and behind the last one those of the end.
+abbrev pub named_word_lines : List (List ℕ) → ℕ → List (List ℕ)
+named_word_lines names w = names ++ code_text w ∷ []
+
 abbrev pub code_texts : (ℕ → List (List ℕ)) → ℕ → List ℕ → List (List ℕ)
 code_texts names at [] = names at
 code_texts names at (w ∷ ws) = names at ++ code_text w ∷ code_texts names (at + 1) ws
@@ -75,6 +82,13 @@ abbrev pub past_word : ℕ → ℕ → ℕ
 past_word count zero = count + 1
 past_word count (suc w) = 0
 
+-- a word behind the names of its place
+abbrev pub named_data_lines : ℕ → List (List ℕ) → ℕ → List (List ℕ)
+named_data_lines count names w = names_lines count names ++ word_lines (past_names count names) w
+
+abbrev pub past_named_data : ℕ → List (List ℕ) → ℕ → ℕ
+past_named_data count names w = past_word (past_names count names) w
+
 -- the lines of words that follow so many words of 0
 abbrev pub data_texts : (ℕ → List (List ℕ)) → ℕ → ℕ → List ℕ → List (List ℕ)
 data_texts names at count [] = space_text count ++ names at
@@ -100,9 +114,29 @@ listing_lines p =
 unfoldable pub lines_text : List (List ℕ) → List ℕ
 lines_text ls = flat_map (λ l. l ++ 10 ∷ []) ls
 
+-- the parts of a listing's text
+abbrev pub code_section : List Symbol → List ℕ → List ℕ
+code_section symbols code = codes ".code\n" ++ lines_text (code_lines (names_at symbols Code) code)
+
+abbrev pub data_section : List ℕ → List Symbol → Region → List ℕ → List ℕ
+data_section front symbols region words = front ++ lines_text (data_lines (names_at symbols region) words)
+
+abbrev pub front_text : ImageSeen → List ℕ
+front_text p = lines_text (entry_lines p.entries) ++ code_section p.symbols p.code
+
+abbrev pub sections_text : ImageSeen → List ℕ
+sections_text p = data_section (codes ".volatile\n") p.symbols Volatile p.volatile ++ data_section (codes ".persist\n") p.symbols Persistent p.persistent
+
+-- A call puts lines, or a front of their text.
+abbrev pub PutsLines : {T E : Type 0} → Result T E → List (List ℕ) → List ℕ → List ℕ → Type 0
+PutsLines result lines old new = Puts result (lines_text lines) old new
+
 unfoldable pub listing : ImageSeen → List ℕ
 listing p = lines_text (listing_lines p)
 
 -- a word that an instruction has is that instruction's word
 abbrev pub IsDecoded : ℕ → Type 0
 IsDecoded w = IfSome (instr_of w) (λ i. IsValid i × (instr_word i ≡ w))
+
+abbrev pub AreDecoded : List ℕ → Type 0
+AreDecoded code = (k : ℕ) → k < length code → IsDecoded (slice_index code k)

@@ -1,7 +1,7 @@
 ghost use Rattle.std.specs.Prelude.{◌≡◌, ◌++◌, ◌∷◌, [], length, replicate, IfOk, OnOk};
 ghost use Rattle.strand_image.specs.Image.{checked_image};
 ghost use Rattle.strand_asm.specs.Draft.{added, blank};
-ghost use Rattle.strand_asm.specs.Assemble.{with_entry};
+ghost use Rattle.strand_asm.specs.Assemble.{with_symbols};
 
 use crate::addition::Addition;
 use std::alloc::Global;
@@ -111,8 +111,8 @@ impl Draft {
 
     /// The image, which begins at the first code word where the text names no entry.
     pub(crate) fn finish(self, symbols: Vec<Symbol>) -> Result<Image, OutOfMemory>
-        requires { let p = record (with_entry self.parts) { symbols = symbols.items } in checked_image p ≡ Ok p }
-        ensures { IfOk result (λ image. image ≡ record (with_entry self.parts) { symbols = symbols.items }) }
+        requires { let p = with_symbols symbols.items self.parts in checked_image p ≡ Ok p }
+        ensures { IfOk result (λ image. image ≡ with_symbols symbols.items self.parts) }
     {
         let mut entries = self.entries;
         if entries.is_empty() {

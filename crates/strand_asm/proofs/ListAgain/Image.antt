@@ -1,8 +1,8 @@
 -- Serves clause again of list: the assembly of a listing is the image again.
-use Rattle.std.proofs.Common.{◌≡◌, ℕ, zero, suc, ◌+◌, ◌^◌, ◌<◌, ◌≤◌, true, false, List, [], ◌∷◌, ◌++◌, length, get_or, map, Result, Ok, Err, refl, sym, ap, subst, ◌∙◌, arith}
+use Rattle.std.proofs.Common.{◌≡◌, ℕ, zero, suc, ◌+◌, ◌^◌, ◌<◌, ◌≤◌, true, false, List, [], ◌∷◌, ◌++◌, length, get_or, map, Result, Ok, Err, refl, sym, ap, ◌∙◌, arith}
 use Rattle.std.specs.Prelude.{◌==◌, nat_le, slice_index}
 use Rattle.std.proofs.lemmas.List.{length-map}
-use Rattle.std.specs.List.{All, AllByRecursion, list_all}
+use Rattle.std.specs.List.{AllByRecursion, list_all}
 use Rattle.std.specs.Result.{OnOk}
 use Rattle.std.proofs.lemmas.List.Elements.{All-filter, recursion_from_All}
 use Rattle.std.proofs.lemmas.List.Folds.{list_all-append}
@@ -143,10 +143,10 @@ lays p h =
     let c1 = goes_cons laid (IsLaid sections.Code c 0 0 0 (named_before ss regions.Code 0)) (IsLaid sections.Code c 0 0 0 (named_before ss regions.Code 0)) (IsLaid sections.Code c k 0 0 (named_before ss regions.Code (k + 1))) (codes ".code") (code_lines (names_at ss regions.Code) p.code) start (code_laid c ss p.code are h.code_words) in
     let turn = lay_takes sections.Code c k 0 0 sections.Volatile c k 0 0 (named_before ss regions.Volatile 0) (codes ".volatile") _ volatile_line refl (λ labels. refl) in
     let v1 = goes_cons laid (IsLaid sections.Code c k 0 0 (named_before ss regions.Volatile 0)) (IsLaid sections.Volatile c k 0 0 (named_before ss regions.Volatile 0)) (IsLaid sections.Volatile c k v 0 (named_before ss regions.Volatile (v + 1))) (codes ".volatile") (data_lines (names_at ss regions.Volatile) p.volatile) turn
-        (volatile_laid c k ss p.volatile are h.image.limits.volatile_within.1 h.image.volatile_numbers) in
+    (volatile_laid c k ss p.volatile are h.image.limits.volatile_within.1 h.image.volatile_numbers) in
     let last = lay_takes sections.Volatile c k v 0 sections.Persist c k v 0 (named_before ss regions.Persistent 0) (codes ".persist") _ persist_line refl (λ labels. refl) in
     let p1 = goes_cons laid (IsLaid sections.Volatile c k v 0 (named_before ss regions.Persistent 0)) (IsLaid sections.Persist c k v 0 (named_before ss regions.Persistent 0)) (IsLaid sections.Persist c k v q (named_before ss regions.Persistent (q + 1))) (codes ".persist") (data_lines (names_at ss regions.Persistent) p.persistent) last
-        (persist_laid c k v ss p.persistent are h.image.limits.persistent_within.1 h.image.persistent_numbers) in
+    (persist_laid c k v ss p.persistent are h.image.limits.persistent_within.1 h.image.persistent_numbers) in
     let c1 = rw (named_first ss, named_code p ss h.image.symbols) at c1 in
     let v1 = rw (named_volatile p ss h.image.symbols) at v1 in
     let p1 = rw (named_all p ss h.image.symbols) at p1 in

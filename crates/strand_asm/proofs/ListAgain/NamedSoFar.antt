@@ -1,5 +1,5 @@
 -- Serves clause again of list: the symbols that stand before a place, as a listing goes on.
-use Rattle.std.proofs.Common.{◌≡◌, ℕ, zero, suc, ◌+◌, ◌<◌, ◌≤◌, arith, inl, inr, ◌⊎◌, Bool, true, false, cond, ◌&&◌, ◌||◌, ◌==◌, List, [], ◌∷◌, ◌++◌, length, get_or, refl, sym, ap, ◌∙◌}
+use Rattle.std.proofs.Common.{◌≡◌, ℕ, suc, ◌+◌, ◌<◌, ◌≤◌, arith, inl, inr, ◌⊎◌, Bool, true, false, ◌&&◌, ◌||◌, ◌==◌, List, [], ◌∷◌, ◌++◌, length, get_or, refl, sym, ap, ◌∙◌}
 use Rattle.std.specs.Prelude.{nat_lt}
 use Rattle.std.specs.List.{filter}
 use Rattle.std.proofs.lemmas.Bool.Decides.{nat_tests}
@@ -45,6 +45,7 @@ named_more (s ∷ ss) region at up = by_before (is_before region at s) refl (nam
   where
     x : ℕ
     x = region_number s.region
+
     by_stands : (h : Bool) → is_before region at s ≡ false → stands_at region at s ≡ h → named_before ss region at ++ named_at ss region at ≡ named_before ss region (at + 1)
         → named_before (s ∷ ss) region at ++ named_at (s ∷ ss) region at ≡ named_before (s ∷ ss) region (at + 1)
     by_stands true e f rest =
@@ -52,6 +53,7 @@ named_more (s ∷ ss) region at up = by_before (is_before region at s) refl (nam
         let same : named_at ss region at ≡ named_before ss region (at + 1) = ap (λ (l : List Symbol). l ++ named_at ss region at) (sym none) ∙ rest in
         rw (e, f, next_stands x s.place (region_number region) at f, none) (ap (λ (l : List Symbol). s ∷ l) same)
     by_stands false e f rest = rw (e, f, next_neither x s.place (region_number region) at e f) rest
+
     by_before : (b : Bool) → is_before region at s ≡ b → named_before ss region at ++ named_at ss region at ≡ named_before ss region (at + 1)
         → named_before (s ∷ ss) region at ++ named_at (s ∷ ss) region at ≡ named_before (s ∷ ss) region (at + 1)
     by_before true e rest = rw (e, stands_late s region at e, next_before x s.place (region_number region) at e) (ap (λ (l : List Symbol). s ∷ l) rest)

@@ -1,7 +1,6 @@
 -- Serves clause again of list: the lines of names in the two passes.
-use Rattle.std.proofs.Common.{◌≡◌, ◌≢◌, ℕ, zero, suc, ◌+◌, ◌<◌, ◌==◌, arith, Bool, true, false, List, [], ◌∷◌, ◌++◌, length, map, get_or, Some, None, Ok, refl, sym, ap, subst, ◌∙◌, append_assoc}
-use Rattle.std.specs.Prelude.{◌&&◌, IsTrue}
-use Rattle.std.specs.List.{All, AllByRecursion, AllPairs, filter}
+use Rattle.std.proofs.Common.{◌≡◌, ◌≢◌, ℕ, ◌+◌, ◌==◌, arith, true, false, List, [], ◌∷◌, ◌++◌, length, map, get_or, None, refl, sym, ap, subst, ◌∙◌, append_assoc}
+use Rattle.std.specs.List.{All, AllByRecursion, AllPairs}
 use Rattle.std.specs.Str.{bytes_eq}
 use Rattle.std.proofs.lemmas.Bool.Decides.{nat_tests}
 use Rattle.std.proofs.lemmas.List.{append-nil, length-append, map-append}
@@ -15,9 +14,7 @@ use Rattle.strand_image.specs.declared.symbol.Region.{Region}
 use Rattle.strand_image.specs.declared.symbol.Region.TheVariants as regions
 use Rattle.strand_image.specs.declared.symbol.Symbol.{Symbol}
 use Rattle.strand_asm_lines.specs.declared.line.Section.{Section}
-use Rattle.strand_asm_lines.specs.declared.line.Section.TheVariants as sections
 use Rattle.strand_asm.specs.declared.layout.Layout.{Layout}
-use Rattle.strand_asm.specs.declared.place.Place.{Place}
 use Rattle.strand_asm.specs.Layout.{count_in, label_place, laid}
 use Rattle.strand_asm.specs.Encode.{Table}
 use Rattle.strand_asm.specs.DraftSeen.{DraftSeen}
@@ -129,12 +126,16 @@ place_laid s cores code volatile persistent at ss are counts = by_names (named_a
   where
     region : Region
     region = region_of s
+
     done : List Symbol
     done = named_before ss region at
+
     more : done ++ named_at ss region at ≡ named_before ss region (at + 1)
     more = named_more ss region at are.ascend
+
     differ : Differ (done ++ named_at ss region at)
     differ = subst Differ (sym more) (AllPairs-filter (λ a b. bytes_eq a.name b.name ≡ false) (is_before region (at + 1)) ss are.differ)
+
     by_names : (here : List Symbol) → named_at ss region at ≡ here → AllByRecursion (IsHere s at) here → (map name_text here ≢ [] → (labels : Table) → count_in s (st s cores code volatile persistent labels) ≡ at)
         → Goes laid (IsLaid s cores code volatile persistent done) (IsLaid s cores code volatile persistent (named_before ss region (at + 1))) (map name_text here)
     by_names [] same all goes_on =
