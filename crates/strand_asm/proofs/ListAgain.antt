@@ -9,5 +9,7 @@ pub mod Instructions
 pub mod Directives
 pub mod ManyLines
 pub mod CodeWords
+pub mod NamedSoFar
+pub mod Names
 pub mod Sections
 pub mod Image

@@ -9,14 +9,16 @@ use Rattle.strand_base.specs.declared.out_of_memory.OutOfMemory.{OutOfMemory}
 use Rattle.strand_base.specs.Puts.{AppendsFront, Puts}
 use Rattle.strand_isa.specs.Print.{Prints}
 use Rattle.strand_image.specs.ImageSeen.{ImageSeen}
-use Rattle.strand_asm.specs.Listing.{code_lines, data_lines, entry_lines, lines_text, listing, space_text, text_or, word_text}
+use Rattle.strand_image.specs.declared.symbol.Symbol.{Symbol}
+use Rattle.strand_image.specs.declared.symbol.Region.TheVariants.{Code, Volatile, Persistent}
+use Rattle.strand_asm.specs.Listing.{code_lines, code_text, code_texts, data_lines, data_texts, entry_lines, lines_text, listing, name_text, names_at, names_lines, past_names, past_word, space_text, text_or, word_lines}
 
 pub lines_append : (xs ys : List (List ℕ)) → lines_text (xs ++ ys) ≡ lines_text xs ++ lines_text ys
 unfolding lines_text
 lines_append [] ys = refl
 lines_append (x ∷ xs) ys = ap (λ (s : List ℕ). (x ++ 10 ∷ []) ++ s) (lines_append xs ys) ∙ sym (append_assoc (x ++ 10 ∷ []) (lines_text xs) (lines_text ys))
 
-pub lines_of_map : (f : ℕ → List ℕ) (xs : List ℕ) → lines_text (map f xs) ≡ flat_map (λ x. f x ++ 10 ∷ []) xs
+pub lines_of_map : {X : Type 0} (f : X → List ℕ) (xs : List X) → lines_text (map f xs) ≡ flat_map (λ x. f x ++ 10 ∷ []) xs
 unfolding lines_text
 lines_of_map f xs = flat_of_map (λ l. l ++ 10 ∷ []) f xs
 
@@ -34,27 +36,33 @@ pub lone_line : (l : List ℕ) → lines_text (l ∷ []) ≡ l ++ 10 ∷ []
 unfolding lines_text
 lone_line l = append-nil (l ++ 10 ∷ [])
 
-at_zero : (count w : ℕ) (ws : List ℕ) → w ≡ 0 → data_lines count (w ∷ ws) ≡ data_lines (count + 1) ws
-unfolding data_lines
-at_zero count zero ws e = refl
-at_zero count (suc w) ws e = absurd (omega (arith, e))
+-- one more code word, with the names before it, and the end
+pub code_more : (names : ℕ → List (List ℕ)) (ws : List ℕ) (i : ℕ) → i < length ws → lines_text (code_texts names i (drop i ws)) ≡ lines_text (names i ++ code_text (get_or ws i 0) ∷ []) ++ lines_text (code_texts names (i + 1) (drop (i + 1) ws))
+code_more names ws i lt =
+    rw (add-one i, drop-cons ws i 0 lt) (ap lines_text (rw (add-one i) (sym (append_assoc (names i) (code_text (get_or ws i 0) ∷ []) (code_texts names (suc i) (drop (suc i) ws))))) ∙ lines_append (names i ++ code_text (get_or ws i 0) ∷ []) (code_texts names (suc i) (drop (suc i) ws)))
 
-at_word : (count w : ℕ) (ws : List ℕ) → (w ≡ 0 → ⊥) → data_lines count (w ∷ ws) ≡ (space_text count ++ word_text 0 w ∷ []) ++ data_lines 0 ws
-unfolding data_lines
-at_word count zero ws e = absurd (e refl)
-at_word count (suc w) ws e = refl
+pub code_end : (names : ℕ → List (List ℕ)) (ws : List ℕ) (i : ℕ) → length ws ≤ i → lines_text (code_texts names i (drop i ws)) ≡ lines_text (names i)
+code_end names ws i le = rw (drop_all i ws le) refl
 
-pub data_zero : (count : ℕ) (ws : List ℕ) (i : ℕ) → i < length ws → get_or ws i 0 ≡ 0 → data_lines count (drop i ws) ≡ data_lines (count + 1) (drop (i + 1) ws)
-data_zero count ws i lt e = rw (add-one i, drop-cons ws i 0 lt) (at_zero count (get_or ws i 0) (drop (suc i) ws) e)
+pub past_names_least : (count : ℕ) (names : List (List ℕ)) → past_names count names ≤ count
+past_names_least count [] = omega arith
+past_names_least count (n ∷ ns) = omega arith
 
-pub data_word : (count : ℕ) (ws : List ℕ) (i : ℕ) → i < length ws → (get_or ws i 0 ≡ 0 → ⊥)
-    → lines_text (data_lines count (drop i ws)) ≡ lines_text (space_text count ++ word_text 0 (get_or ws i 0) ∷ []) ++ lines_text (data_lines 0 (drop (i + 1) ws))
-data_word count ws i lt e =
-    rw (add-one i) (ap lines_text (rw (drop-cons ws i 0 lt) (at_word count (get_or ws i 0) (drop (suc i) ws) e)) ∙ lines_append (space_text count ++ word_text 0 (get_or ws i 0) ∷ []) (data_lines 0 (drop (suc i) ws)))
+pub past_word_least : (count w : ℕ) → past_word count w ≤ count + 1
+past_word_least count zero = omega arith
+past_word_least count (suc w) = omega arith
 
-pub data_end : (count : ℕ) (ws : List ℕ) (i : ℕ) → length ws ≤ i → lines_text (data_lines count (drop i ws)) ≡ lines_text (space_text count)
-unfolding data_lines
-data_end count ws i le = rw (drop_all i ws le) refl
+-- one more data word
+pub data_more : (names : ℕ → List (List ℕ)) (count : ℕ) (ws : List ℕ) (i : ℕ) → i < length ws
+    → let w = get_or ws i 0 in let left = past_names count (names i) in
+    lines_text (data_texts names i count (drop i ws)) ≡ lines_text (names_lines count (names i) ++ word_lines left w) ++ lines_text (data_texts names (i + 1) (past_word left w) (drop (i + 1) ws))
+data_more names count ws i lt =
+    let w = get_or ws i 0 in
+    let left = past_names count (names i) in
+    rw (add-one i, drop-cons ws i 0 lt) (ap lines_text (rw (add-one i) (sym (append_assoc (names_lines count (names i)) (word_lines left w) (data_texts names (suc i) (past_word left w) (drop (suc i) ws))))) ∙ lines_append (names_lines count (names i) ++ word_lines left w) (data_texts names (suc i) (past_word left w) (drop (suc i) ws)))
+
+pub data_end : (names : ℕ → List (List ℕ)) (count : ℕ) (ws : List ℕ) (i : ℕ) → length ws ≤ i → lines_text (data_texts names i count (drop i ws)) ≡ lines_text (space_text count ++ names i)
+data_end names count ws i le = rw (drop_all i ws le) refl
 
 -- an instruction's line behind its text
 pub print_stops : (e : OutOfMemory) (o : Option (List ℕ)) (w : ℕ) (old new : List ℕ) → (let r : Result Bool OutOfMemory = Err e in Prints r o old new) → AppendsFront (text_or w o ++ 10 ∷ []) old new
@@ -66,12 +74,25 @@ line_printed r b (Some text) w old mid new is h g = puts_after r text (10 ∷ []
 line_printed r b None w old mid new is h g = absurd (let e = h.0 in cc)
 
 -- a listing, section by section
-pub listing_parts : (p : ImageSeen) → listing p ≡ (lines_text (entry_lines p.entries) ++ (codes ".code\n" ++ lines_text (code_lines p.code))) ++ ((codes ".volatile\n" ++ lines_text (data_lines 0 p.volatile)) ++ (codes ".persist\n" ++ lines_text (data_lines 0 p.persistent)))
+pub listing_parts : (p : ImageSeen) → listing p
+    ≡ (lines_text (entry_lines p.entries) ++ (codes ".code\n" ++ lines_text (code_lines (names_at p.symbols Code) p.code)))
+    ++ ((codes ".volatile\n" ++ lines_text (data_lines (names_at p.symbols Volatile) p.volatile)) ++ (codes ".persist\n" ++ lines_text (data_lines (names_at p.symbols Persistent) p.persistent)))
 unfolding listing lines_text
 listing_parts p =
     let e = entry_lines p.entries in
-    let c = codes ".code" ∷ code_lines p.code in
-    let v = codes ".volatile" ∷ data_lines 0 p.volatile in
-    let q = codes ".persist" ∷ data_lines 0 p.persistent in
+    let c = codes ".code" ∷ code_lines (names_at p.symbols Code) p.code in
+    let v = codes ".volatile" ∷ data_lines (names_at p.symbols Volatile) p.volatile in
+    let q = codes ".persist" ∷ data_lines (names_at p.symbols Persistent) p.persistent in
     lines_append (e ++ c ++ v) q ∙ ap (λ (s : List ℕ). s ++ lines_text q) (lines_append (e ++ c) v ∙ ap (λ (s : List ℕ). s ++ lines_text v) (lines_append e c))
     ∙ append_assoc (lines_text e ++ lines_text c) (lines_text v) (lines_text q)
+
+-- no lines: of a word of 0, and before a word without names
+pub no_word : (count w : ℕ) → w ≡ 0 → lines_text (word_lines count w) ≡ []
+unfolding lines_text
+no_word count zero e = refl
+no_word count (suc w) e = absurd (omega arith)
+
+pub no_names : (count : ℕ) (names : List Symbol) → length names ≡ 0 → lines_text (names_lines count (map name_text names)) ≡ []
+unfolding lines_text
+no_names count [] e = refl
+no_names count (s ∷ ss) e = absurd (omega arith)

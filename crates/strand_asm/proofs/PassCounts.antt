@@ -190,7 +190,7 @@ body_agrees whole site l d (bodies.Code p) more placed e h =
     subst (λ (m : Addition). Agrees whole.code (with_more_words sections.Code (size_of p) l) (added d m)) (ok_inside _ more b.1.1)
     (coded_agrees whole.code l d b.0 (size_of p) (coded_counts whole.labels site p.op p b.0 b.1.0) h)
 
-not_duplicate : (n : ℕ) (o : Option Place) (m named : Layout) → unless_duplicate n o m ≡ Ok named → m ≡ named
+pub not_duplicate : (n : ℕ) (o : Option Place) (m named : Layout) → unless_duplicate n o m ≡ Ok named → m ≡ named
 not_duplicate n None m named e = ok_inside m named e
 not_duplicate n (Some place) m named e = absurd cc
 
@@ -209,7 +209,7 @@ label_agrees total n (Some name) l named d e h =
       sym (ap (λ (m : Layout). m.section) same),
     )
 
-if_true : {A : Type 0} (b : Bool) (r : Result A AsmFault) (f : AsmFault) (y : A) → cond b r (Err f) ≡ Ok y → (b ≡ true) × (r ≡ Ok y)
+pub if_true : {A : Type 0} (b : Bool) (r : Result A AsmFault) (f : AsmFault) (y : A) → cond b r (Err f) ≡ Ok y → (b ≡ true) × (r ≡ Ok y)
 if_true true r f y e = (refl, e)
 if_true false r f y e = absurd cc
 

@@ -1,14 +1,14 @@
 ghost use Rattle.std.specs.Prelude.{◌≡◌, ◌++◌, ◌∷◌, [], length, replicate, IfOk, OnOk};
 ghost use Rattle.strand_image.specs.Image.{checked_image};
 ghost use Rattle.strand_asm.specs.Draft.{added, blank};
-ghost use Rattle.strand_asm.specs.Assemble.{with_entry};
+ghost use Rattle.strand_asm.specs.Assemble.{with_symbols};
 
 use crate::addition::Addition;
 use std::alloc::Global;
 use std::marker::Model;
 use strand_asm_lines::Section;
 use strand_base::OutOfMemory;
-use strand_image::Image;
+use strand_image::{Image, Symbol};
 
 /// An image while it is put together, and the section that the next line stands in.
 #[derive(Drop)]
@@ -109,22 +109,16 @@ impl Draft {
         }
     }
 
-    /// The image, which begins at the first code word where the text names no entry. It has no symbols.
-    pub(crate) fn finish(self, alloc: Global) -> Result<Image, OutOfMemory>
-        requires { checked_image (with_entry self.parts) ≡ Ok (with_entry self.parts) }
-        ensures { IfOk result (λ image. image ≡ with_entry self.parts) }
+    /// The image, which begins at the first code word where the text names no entry.
+    pub(crate) fn finish(self, symbols: Vec<Symbol>) -> Result<Image, OutOfMemory>
+        requires { let p = with_symbols symbols.items self.parts in checked_image p ≡ Ok p }
+        ensures { IfOk result (λ image. image ≡ with_symbols symbols.items self.parts) }
     {
         let mut entries = self.entries;
         if entries.is_empty() {
             put_one(&mut entries, 0)?;
         }
-        match Image::make(
-            entries,
-            self.code,
-            self.volatile,
-            self.persistent,
-            Vec::new(alloc),
-        ) {
+        match Image::make(entries, self.code, self.volatile, self.persistent, symbols) {
             Ok(image) => Ok(image),
             Err(_) => Err(OutOfMemory),
         }

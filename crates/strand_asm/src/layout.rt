@@ -56,5 +56,6 @@ pub(crate) fn check_limits(layout: &Layout) -> Result<(), AsmFault>
     check(Quantity::Cores, cores)?;
     check(Quantity::Code, layout.code)?;
     check(Quantity::Volatile, layout.volatile)?;
-    check(Quantity::Persistent, layout.persistent)
+    check(Quantity::Persistent, layout.persistent)?;
+    check(Quantity::Symbols, layout.labels.count())
 }

@@ -1,51 +1,17 @@
-ghost use Rattle.std.specs.Prelude.{◌≡◌, ◌+◌, ◌++◌, ◌<◌, ◌≤◌, ◌∷◌, [], ℕ, codes, decimal, drop, length, slice_index, Ok, OnOk};
-ghost use Rattle.strand_base.specs.Hexadecimal.{hex16};
+ghost use Rattle.std.specs.Prelude.{◌≡◌, ◌++◌, ◌<◌, ◌^◌, ◌∷◌, [], codes, length, Ok, OnOk};
 ghost use Rattle.strand_base.specs.Puts.{Puts};
 ghost use Rattle.strand_isa.specs.Print.{instr_text};
 ghost use Rattle.strand_isa.specs.Word.{IsValid};
+ghost use Rattle.strand_image.specs.Limits.{IsImage};
 ghost use Rattle.strand_asm.specs.Assemble.{assembled};
-ghost use Rattle.strand_asm.specs.Listing.{IsDecoded, code_lines, code_text, data_lines, entry_lines, entry_text, lines_text, listing, space_text, text_or, word_text, without_symbols};
+ghost use Rattle.strand_asm.specs.Listing.{AreDecoded, Ascend, IsDecoded, PutsLines, code_lines, code_section, code_text, data_section, entry_lines, entry_text, front_text, listing, named_word_lines, names_at, sections_text, text_or, word_text};
 
-use strand_base::{OutOfMemory, hex_digits, print_decimal, put};
-use strand_image::Image;
+use crate::data_lines::put_data;
+use crate::names::{put_names, standing_at};
+use crate::number_lines::{put_number_line, put_word_line};
+use strand_base::{OutOfMemory, put};
+use strand_image::{Image, Region, Symbol};
 use strand_isa::{Instr, decode, print_instr};
-
-fn put_number(into: &mut Vec<u8>, front: &[u8], n: u64) -> Result<(), OutOfMemory>
-    ensures { Puts result (front.now ++ decimal n) into.old.items into.new.items }
-{
-    put(into, front)?;
-    print_decimal(n, into)
-}
-
-fn put_number_line(into: &mut Vec<u8>, front: &[u8], n: u64) -> Result<(), OutOfMemory>
-    ensures { Puts result (front.now ++ decimal n ++ 10 ∷ []) into.old.items into.new.items }
-{
-    put_number(into, front, n)?;
-    put(into, b"\n")
-}
-
-fn put_digits(into: &mut Vec<u8>, n: u64, from: usize) -> Result<(), OutOfMemory>
-    requires { from ≤ 16 }
-    ensures { Puts result (drop from (hex16 n)) into.old.items into.new.items }
-{
-    put(into, &hex_digits(n)[from..])
-}
-
-fn put_word(into: &mut Vec<u8>, n: u64, from: usize) -> Result<(), OutOfMemory>
-    requires { from ≤ 16 }
-    ensures { Puts result (word_text from n) into.old.items into.new.items }
-{
-    put(into, b".word 0x")?;
-    put_digits(into, n, from)
-}
-
-fn put_word_line(into: &mut Vec<u8>, n: u64, from: usize) -> Result<(), OutOfMemory>
-    requires { from ≤ 16 }
-    ensures { Puts result (word_text from n ++ 10 ∷ []) into.old.items into.new.items }
-{
-    put_word(into, n, from)?;
-    put(into, b"\n")
-}
 
 fn put_entry(into: &mut Vec<u8>, entry: u32) -> Result<(), OutOfMemory>
     ensures { Puts result (entry_text entry ++ 10 ∷ []) into.old.items into.new.items }
@@ -54,7 +20,7 @@ fn put_entry(into: &mut Vec<u8>, entry: u32) -> Result<(), OutOfMemory>
 }
 
 fn put_entries(into: &mut Vec<u8>, entries: &[u32]) -> Result<(), OutOfMemory>
-    ensures { Puts result (lines_text (entry_lines entries.now)) into.old.items into.new.items }
+    ensures { PutsLines result (entry_lines entries.now) into.old.items into.new.items }
 {
     for entry in entries {
         put_entry(into, *entry)?;
@@ -89,88 +55,104 @@ fn put_code_word(into: &mut Vec<u8>, word: u32) -> Result<(), OutOfMemory>
     }
 }
 
-fn put_code(into: &mut Vec<u8>, code: &[u32]) -> Result<(), OutOfMemory>
-    ensures text { Puts result (lines_text (code_lines code.now)) into.old.items into.new.items }
-    ensures decoded { OnOk result ((k : ℕ) → k < length code.now → IsDecoded (slice_index code.now k)) }
+/// The names of a place of the code.
+fn put_code_names(into: &mut Vec<u8>, symbols: &[Symbol], place: u32) -> Result<(), OutOfMemory>
+    requires { Ascend symbols.now }
+    ensures { PutsLines result (names_at symbols.now Region.Code place) into.old.items into.new.items }
 {
-    for word in code {
-        put_code_word(into, *word)?;
-    }
-    Ok(())
+    put_names(into, standing_at(symbols, Region::Code, place))
 }
 
-/// The line of so many words of 0, where there are any.
-fn put_space(into: &mut Vec<u8>, zeros: u64) -> Result<(), OutOfMemory>
-    ensures { Puts result (lines_text (space_text zeros)) into.old.items into.new.items }
+/// A code word behind the names of its place.
+fn put_named_word(
+    into: &mut Vec<u8>,
+    symbols: &[Symbol],
+    place: u32,
+    word: u32,
+) -> Result<(), OutOfMemory>
+    requires { Ascend symbols.now }
+    ensures text { PutsLines result (named_word_lines (names_at symbols.now Region.Code place) word) into.old.items into.new.items }
+    ensures decoded { OnOk result (IsDecoded word) }
 {
-    if zeros == 0 {
-        Ok(())
-    } else {
-        put_number_line(into, b".space ", zeros)
-    }
+    put_code_names(into, symbols, place)?;
+    put_code_word(into, word)
 }
 
-fn put_data_word(into: &mut Vec<u8>, zeros: u64, word: u64) -> Result<(), OutOfMemory>
-    ensures { Puts result (lines_text (space_text zeros ++ word_text 0 word ∷ [])) into.old.items into.new.items }
+fn put_code(into: &mut Vec<u8>, symbols: &[Symbol], code: &[u32]) -> Result<(), OutOfMemory>
+    requires ascend { Ascend symbols.now }
+    requires few { length code.now < 2 ^ 32 }
+    ensures text { PutsLines result (code_lines (names_at symbols.now Region.Code) code.now) into.old.items into.new.items }
+    ensures decoded { OnOk result (AreDecoded code.now) }
 {
-    put_space(into, zeros)?;
-    put_word_line(into, word, 0)
-}
-
-fn put_data(into: &mut Vec<u8>, words: &[u64]) -> Result<(), OutOfMemory>
-    ensures { Puts result (lines_text (data_lines 0 words.now)) into.old.items into.new.items }
-{
-    let mut zeros = 0;
-    for word in words {
-        if *word == 0 {
-            zeros += 1;
-        } else {
-            put_data_word(into, zeros, *word)?;
-            zeros = 0;
-        }
+    for (place, word) in code.iter().enumerate() {
+        put_named_word(into, symbols, place as u32, *word)?;
     }
-    put_space(into, zeros)
+    put_code_names(into, symbols, code.len() as u32)
 }
 
 /// A section's directive and its words.
-fn put_section(into: &mut Vec<u8>, front: &[u8], words: &[u64]) -> Result<(), OutOfMemory>
-    ensures { Puts result (front.now ++ lines_text (data_lines 0 words.now)) into.old.items into.new.items }
+fn put_section(
+    into: &mut Vec<u8>,
+    front: &[u8],
+    symbols: &[Symbol],
+    region: Region,
+    words: &[u64],
+) -> Result<(), OutOfMemory>
+    requires ascend { Ascend symbols.now }
+    requires few { length words.now < 2 ^ 32 }
+    ensures { Puts result (data_section front.now symbols.now region words.now) into.old.items into.new.items }
 {
     put(into, front)?;
-    put_data(into, words)
+    put_data(into, symbols, region, words)
 }
 
-fn put_code_section(into: &mut Vec<u8>, code: &[u32]) -> Result<(), OutOfMemory>
-    ensures text { Puts result (codes ".code\n" ++ lines_text (code_lines code.now)) into.old.items into.new.items }
-    ensures decoded { OnOk result ((k : ℕ) → k < length code.now → IsDecoded (slice_index code.now k)) }
+fn put_code_section(into: &mut Vec<u8>, symbols: &[Symbol], code: &[u32]) -> Result<(), OutOfMemory>
+    requires ascend { Ascend symbols.now }
+    requires few { length code.now < 2 ^ 32 }
+    ensures text { Puts result (code_section symbols.now code.now) into.old.items into.new.items }
+    ensures decoded { OnOk result (AreDecoded code.now) }
 {
     put(into, b".code\n")?;
-    put_code(into, code)
+    put_code(into, symbols, code)
 }
 
-fn put_front(into: &mut Vec<u8>, entries: &[u32], code: &[u32]) -> Result<(), OutOfMemory>
-    ensures text { Puts result (lines_text (entry_lines entries.now) ++ (codes ".code\n" ++ lines_text (code_lines code.now))) into.old.items into.new.items }
-    ensures decoded { OnOk result ((k : ℕ) → k < length code.now → IsDecoded (slice_index code.now k)) }
+fn put_front(into: &mut Vec<u8>, image: &Image) -> Result<(), OutOfMemory>
+    ensures text { Puts result (front_text image.now) into.old.items into.new.items }
+    ensures decoded { OnOk result (AreDecoded image.now.code) }
+    ensures keeps { IsImage image.now }
 {
-    put_entries(into, entries)?;
-    put_code_section(into, code)
+    put_entries(into, image.entries())?;
+    put_code_section(into, image.symbols(), image.code())
 }
 
-fn put_sections(into: &mut Vec<u8>, volatile: &[u64], persistent: &[u64]) -> Result<(), OutOfMemory>
-    ensures { Puts result ((codes ".volatile\n" ++ lines_text (data_lines 0 volatile.now)) ++ (codes ".persist\n" ++ lines_text (data_lines 0 persistent.now))) into.old.items into.new.items }
+fn put_sections(into: &mut Vec<u8>, image: &Image) -> Result<(), OutOfMemory>
+    ensures { Puts result (sections_text image.now) into.old.items into.new.items }
 {
-    put_section(into, b".volatile\n", volatile)?;
-    put_section(into, b".persist\n", persistent)
+    let symbols = image.symbols();
+    put_section(
+        into,
+        b".volatile\n",
+        symbols,
+        Region::Volatile,
+        image.volatile(),
+    )?;
+    put_section(
+        into,
+        b".persist\n",
+        symbols,
+        Region::Persistent,
+        image.persistent(),
+    )
 }
 
 /// Appends the listing of an image: an assembler text with `.entry` for each core, and then the sections
-/// with a line for each code word, for each longest run of data words of 0 and for each other data word.
-/// Where memory ran out, a front of it is appended. Symbols aren't listed: the assembly of
-/// the listing is the image again without them.
+/// with a line for each symbol before the word at its place or at the end of its section, for each code word,
+/// for each longest run of data words of 0 in which no symbol stands but at the first, and for each other data
+/// word. Where memory ran out, a front of it is appended. The assembly of the listing is the image again.
 pub fn list(image: &Image, into: &mut Vec<u8>) -> Result<(), OutOfMemory>
     ensures text { Puts result (listing image.now) into.old.items into.new.items }
-    ensures again { OnOk result (assembled (listing image.now) ≡ Ok (without_symbols image.now)) }
+    ensures again { OnOk result (assembled (listing image.now) ≡ Ok image.now) }
 {
-    put_front(into, image.entries(), image.code())?;
-    put_sections(into, image.volatile(), image.persistent())
+    put_front(into, image)?;
+    put_sections(into, image)
 }

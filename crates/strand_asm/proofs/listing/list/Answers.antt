@@ -7,14 +7,10 @@ use Rattle.strand_asm.proofs.listing.list.Goals as goal
 pub returns-in_err-put_front-clause-text : goal.returns-in_err-put_front-clause-text
 returns-in_err-put_front-clause-text c =
     let p = err_from_is_err_and c.from_residual.result c.from_residual.ensures.1 in
-    rw (p.1, listing_parts c.args.image.now, ← c.entries.ensures.entries, ← c.code.ensures.code) (front_before _ _ _ _ c.in_err-put_front.ensures.text)
+    rw (p.1, listing_parts c.args.image.now) (front_before _ _ _ _ c.in_err-put_front.ensures.text)
 
 pub returns-clause-text : goal.returns-clause-text
-returns-clause-text c =
-    rw (listing_parts c.args.image.now, ← c.entries.ensures.entries, ← c.code.ensures.code, ← c.volatile.ensures.volatile, ← c.persistent.ensures.persistent)
-    (puts_after c.put_sections.result _ _ _ _ _ c.in_ok-put_front.ensures.text c.put_sections.ensures)
+returns-clause-text c = rw (listing_parts c.args.image.now) (puts_after c.put_sections.result _ _ _ _ _ c.in_ok-put_front.ensures.text c.put_sections.ensures)
 
 pub returns-clause-again : goal.returns-clause-again
-returns-clause-again c =
-    let decoded = rw c.code.ensures.code at c.in_ok-put_front.ensures.decoded in
-    ok_when c.put_sections.result _ (again c.args.image.now c.entries.ensures.keeps decoded)
+returns-clause-again c = ok_when c.put_sections.result _ (again c.args.image.now c.in_ok-put_front.ensures.keeps c.in_ok-put_front.ensures.decoded)

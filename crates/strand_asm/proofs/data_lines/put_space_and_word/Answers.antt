@@ -3,7 +3,7 @@ use Rattle.std.proofs.lemmas.Result.{err_from_is_err_and}
 use Rattle.strand_base.proofs.AppendsFront.{front_before, puts_after}
 use Rattle.strand_asm.specs.Listing.{space_text, word_text, lines_text}
 use Rattle.strand_asm.proofs.ListText.{lines_append, lone_line}
-use Rattle.strand_asm.proofs.listing.put_data_word.Goals as goal
+use Rattle.strand_asm.proofs.data_lines.put_space_and_word.Goals as goal
 
 pub returns-in_err-put_space : goal.returns-in_err-put_space
 returns-in_err-put_space c =

@@ -1,6 +1,6 @@
 use Rattle.std.proofs.lemmas.Result.{err_from_is_err_and}
 use Rattle.strand_base.proofs.AppendsFront.{front_before, puts_after}
-use Rattle.strand_asm.proofs.listing.put_number.Goals as goal
+use Rattle.strand_asm.proofs.number_lines.put_number.Goals as goal
 
 pub returns-in_err-put : goal.returns-in_err-put
 returns-in_err-put c =

@@ -1,7 +1,7 @@
 use Rattle.strand_asm.specs.Listing.{word_text}
 use Rattle.std.proofs.lemmas.Result.{err_from_is_err_and}
 use Rattle.strand_base.proofs.AppendsFront.{front_before, puts_after}
-use Rattle.strand_asm.proofs.listing.put_word_line.Goals as goal
+use Rattle.strand_asm.proofs.number_lines.put_word_line.Goals as goal
 
 pub returns-in_err-put_word : goal.returns-in_err-put_word
 returns-in_err-put_word c =

@@ -1,6 +1,6 @@
 use Rattle.std.proofs.lemmas.Result.{err_from_is_err_and}
 use Rattle.strand_base.proofs.AppendsFront.{front_before, puts_after}
-use Rattle.strand_asm.proofs.listing.put_number_line.Goals as goal
+use Rattle.strand_asm.proofs.number_lines.put_number_line.Goals as goal
 
 pub returns-in_err-put_number : goal.returns-in_err-put_number
 returns-in_err-put_number c =
