@@ -7,7 +7,7 @@ import re
 from collections import namedtuple
 
 import names
-from formats import QUANTITIES, Image, Refused, Symbol, plain_lines
+from formats import QUANTITIES, Image, Refused, Symbol, number_of as decimal_of, plain_lines
 
 NAME = re.compile(rb"[A-Za-z_][A-Za-z0-9_]*")
 SECTIONS = ("code", "volatile", "persist")
@@ -43,13 +43,13 @@ Label = namedtuple("Label", "section place address line")
 
 def number_of(word):
     """The number that is written, or None."""
-    if re.fullmatch(rb"-?[0-9]+", word):
-        number = int(word)
-    elif re.fullmatch(rb"0x[0-9A-Fa-f]+", word):
+    if re.fullmatch(rb"0x[0-9A-Fa-f]+", word):
         number = int(word[2:], 16)
-    else:
-        return None
-    return number if -2**63 <= number < 2**64 else None
+        return number if number < 2**64 else None
+    number = decimal_of(word.removeprefix(b"-"))
+    if number is None or not word.startswith(b"-"):
+        return number
+    return -number if number <= 2**63 else None
 
 
 def is_name(word):

@@ -46,7 +46,8 @@ class Refused(Exception):
 
 def number_of(word):
     """The number that decimal digits write, or None."""
-    return int(word) if re.fullmatch(rb"[0-9]+", word) and int(word) < 2**64 else None
+    digits = word.lstrip(b"0") or b"0"
+    return int(digits) if re.fullmatch(rb"[0-9]+", word) and len(digits) <= 20 and int(digits) < 2**64 else None
 
 
 def plain_lines(data):

@@ -9,14 +9,15 @@ import formats
 import runs
 
 BASES, WIDTHS = (0x10000000, 0x20000000, 0x40000000), (4, 8, 8)  # of code, volatile and persistent words
-WORD = re.compile(r"0x[0-9A-Fa-f]+|[0-9]+")
+MOST = 8  # names of a list
 PLACE = re.compile(r"([A-Za-z_][A-Za-z0-9_]*)(?:\+(0x[0-9A-Fa-f]+|[0-9]+))?")
 
 
 def number_of(word):
     """The number that decimal digits write, or hexadecimal ones behind 0x, if it has 64 bits at most; else None."""
-    number = int(word, 16 if word[1:2] == "x" else 10) if WORD.fullmatch(word) else 2**64
-    return number if number < 2**64 else None
+    if re.fullmatch("0x0*[0-9A-Fa-f]{1,16}", word):
+        return int(word, 16)
+    return formats.number_of(word.encode()) if word.isascii() else None
 
 
 class Names:
@@ -46,12 +47,17 @@ class Names:
         name = self.name_of(address)
         return f"{name} (0x{address:x})" if name else f"0x{address:x}"
 
+    def listed(self, addresses):
+        """The first of these addresses with their names, and dots where there are more."""
+        return ", ".join([*map(self.whole, addresses[:MOST]), *[".."] * (len(addresses) > MOST)])
+
     def address_of(self, text):
         """The address that is written as a number, a name, or a name and a number of bytes behind it; or None."""
         found = PLACE.fullmatch(text)
         if not found or found[1] not in self.names:
             return number_of(text)
-        return self.addresses[self.names.index(found[1])] + int(found[2] or "0", 0)
+        behind = number_of(found[2] or "0")
+        return None if behind is None else self.addresses[self.names.index(found[1])] + behind
 
 
 def image_of(path):
