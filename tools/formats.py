@@ -10,10 +10,12 @@ from collections import namedtuple
 
 MOST_STEPS = 200_000
 BYTES = {"machine": 4_096, "image": 8_388_608, "schedule": 16_777_216, "text": 16_777_216, "crash": 2_097_152}
-FILES = {"asm": ("text",), "list": ("image",), "upgrade": ("image",),
-         "run": ("machine", "image", "schedule"), "trace": ("machine", "image", "schedule"),
-         "judge": ("machine", "image", "schedule", "crash")}
-GENERATED = ("gen", "gen-image", "gen-schedule")  # these take a seed and a size
+RUN = ("MACHINE", "IMAGE", "SCHEDULE", "STOP")
+COMMANDS = {"asm": ("TEXT",), "list": ("IMAGE",), "upgrade": ("IMAGE",), "run": RUN, "trace": RUN, "judge": (*RUN, "CRASH"),
+            **dict.fromkeys(("gen", "gen-image", "gen-schedule"), ("SEED", "SIZE"))}
+GENERATED = tuple(command for command, words in COMMANDS.items() if "SEED" in words)
+FILES = {command: tuple(word.lower() for word in words if word.lower() in BYTES) for command, words in COMMANDS.items()
+         if command not in GENERATED}
 CHOICES = {b"mode": (b"strict", b"epoch", b"strand"), b"conflict": (b"stall", b"tag")}
 SIZES = {b"queue": 64, b"buffers": 8, b"ring": 64, b"flight": 64, b"sets": 64, b"ways": 8}
 KEYS = (b"mode", *SIZES)  # those that each machine file gives
