@@ -6,10 +6,12 @@ proved.
 import re
 from collections import namedtuple
 
-from formats import QUANTITIES, Image, Refused, plain_lines
+import names
+from formats import QUANTITIES, Image, Refused, Symbol, number_of as decimal_of, plain_lines
 
 NAME = re.compile(rb"[A-Za-z_][A-Za-z0-9_]*")
-BASES = {"code": 0x10000000, "volatile": 0x20000000, "persist": 0x40000000}
+SECTIONS = ("code", "volatile", "persist")
+BASES = dict(zip(SECTIONS, names.BASES))
 NAMES = [b"zero", b"ra", b"sp", b"gp", b"tp", *(b"t%d" % n for n in range(3)), b"s0", b"s1", *(b"a%d" % n for n in range(8)),
          *(b"s%d" % n for n in range(2, 12)), *(b"t%d" % n for n in range(3, 7))]
 REGISTERS = {**{b"x%d" % n: n for n in range(32)}, **{name: n for n, name in enumerate(NAMES)}, b"fp": 8}
@@ -36,18 +38,18 @@ FORMS = {**dict.fromkeys((".code", ".volatile", ".persist"), ""), ".entry": "t",
 
 # A line: its label, its first word, its operands; each may be missing.
 Line = namedtuple("Line", "label first operands")
-Label = namedtuple("Label", "section address line")
+Label = namedtuple("Label", "section place address line")
 
 
 def number_of(word):
     """The number that is written, or None."""
-    if re.fullmatch(rb"-?[0-9]+", word):
-        number = int(word)
-    elif re.fullmatch(rb"0x[0-9A-Fa-f]+", word):
+    if re.fullmatch(rb"0x[0-9A-Fa-f]+", word):
         number = int(word[2:], 16)
-    else:
-        return None
-    return number if -2**63 <= number < 2**64 else None
+        return number if number < 2**64 else None
+    number = decimal_of(word.removeprefix(b"-"))
+    if number is None or not word.startswith(b"-"):
+        return number
+    return -number if number <= 2**63 else None
 
 
 def is_name(word):
@@ -128,15 +130,15 @@ class Draft:
             if line.label is not None:
                 if line.label in self.labels:
                     raise Refused("input", "duplicate", at, self.labels[line.label].line)
-                width = 4 if section == "code" else 8
-                self.labels[line.label] = Label(section, BASES[section] + width * before, at)
+                width = names.WIDTHS[SECTIONS.index(section)]
+                self.labels[line.label] = Label(section, before, BASES[section] + width * before, at)
             if line.first:
                 self.lines.append((at, section, before, line))
             self.sizes[section] = before + words_in(line)
             self.entries += line.first == ".entry"
             if line.first in (".code", ".volatile", ".persist"):
                 section = line.first[1:]
-        sizes = [self.entries or 1, *self.sizes.values()]
+        sizes = [self.entries or 1, *self.sizes.values(), len(self.labels)]
         for (name, least, most), size in zip(QUANTITIES, sizes):
             if not least <= size <= most:
                 raise Refused("limit", name, size)
@@ -224,7 +226,7 @@ def code_of(draft, at, before, name, operands):
 def assemble(data):
     """The image of a text, or its first fault."""
     draft = Draft(data)
-    image = Image([], [], [], [], [])
+    image = Image([], [], [], [], sorted(Symbol(SECTIONS.index(label.section), label.place, name) for name, label in draft.labels.items()))
     data_words = {"volatile": image.volatile, "persist": image.persistent}
     for at, section, before, line in draft.lines:
         name, operands = line.first, line.operands
@@ -283,11 +285,13 @@ def text_of(word):
     return None
 
 
-def data_lines(words):
+def data_lines(words, named):
+    """The lines of data words, with names before the words at their places; a run of zeros ends before a name."""
     at = 0
     while at < len(words):
+        yield from named.get(at, ())
         behind = at
-        while behind < len(words) and words[behind] == 0:
+        while behind < len(words) and words[behind] == 0 and (behind == at or behind not in named):
             behind += 1
         if behind > at:
             yield f".space {behind - at}"
@@ -295,10 +299,23 @@ def data_lines(words):
         else:
             yield f".word 0x{words[at]:016x}"
             at += 1
+    yield from named.get(at, ())
+
+
+def code_lines(words, named):
+    for at, word in enumerate(words):
+        yield from named.get(at, ())
+        yield text_of(word) or f".word 0x{word:08x}"
+    yield from named.get(len(words), ())
 
 
 def listing(image):
-    lines = [f".entry {entry}" for entry in image.entries] + [".code"]
-    lines += [text_of(word) or f".word 0x{word:08x}" for word in image.code]
-    lines += [".volatile", *data_lines(image.volatile), ".persist", *data_lines(image.persistent)]
+    lines = [f".entry {entry}" for entry in image.entries]
+    parts = (code_lines, image.code), (data_lines, image.volatile), (data_lines, image.persistent)
+    for region, (lines_of, words) in enumerate(parts):
+        named = {}
+        for symbol in image.symbols:
+            if symbol.region == region:
+                named.setdefault(symbol.place, []).append(f"{symbol.name.decode()}:")
+        lines += [f".{SECTIONS[region]}", *lines_of(words, named)]
     return "".join(line + "\n" for line in lines).encode()

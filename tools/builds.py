@@ -70,6 +70,7 @@ class Repository:
             file.write(TOOLCHAIN)
         os.chmod(os.path.join(self.tools, "rt"), 0o755)
         self.first = os.path.join(self.folder, "examples", "first")
+        self.inputs = [os.path.join(self.first, name) for name in ("machine", "image", "schedule")]
 
     def source(self, crate):
         return os.path.join(self.folder, "crates", crate, "src", "lib.rt")
@@ -85,7 +86,7 @@ class Repository:
         given = {"CALLS": self.calls, "FIRST": os.path.join(self.first, "printed"), "ENDS": json.dumps(ends), "EDITED": edited}
         given["TRIED"] = self.report().decode() if tried is None else tried
         given["PATH"], given["STRAND_BUILD"] = path or f"{self.tools}:{os.environ['PATH']}", choice
-        words = words or ["run", *(os.path.join(self.first, name) for name in ("machine", "image", "schedule")), "end"]
+        words = words or ["run", *self.inputs, "end"]
         with open(self.calls, "w", encoding="ascii"):
             pass
         done = subprocess.run([os.path.join(self.folder, "strand"), *words], stdin=subprocess.DEVNULL,
@@ -133,6 +134,10 @@ def try_words(check, repository, commands):
         got = repository.run(ends, choice="no", words=[name, *(given.get(word, "file") for word in others)])
         is_right = got[1] == 0 and len(got[3]) == 1 and got[3][0].startswith("strand try -- ")
         check.note(f"{name} before a build", "" if is_right else f"{got}")
+    words, into = ["run", *repository.inputs, "end"], os.path.join(repository.folder, "into")
+    due(check, "-o before a build", repository.run(ends, choice="no", words=["-o", into, *words]), b"", 0, TRY, UNPROVED)
+    with open(into, "rb") as file:
+        check.note("what -o wrote", "" if file.read() == repository.report() else "is another text")
     with open("/dev/full", "wb") as full:
         due(check, "a full output", repository.run(ends, choice="no", output=full), None, 5, TRY, "the output failed", UNPROVED)
 

@@ -9,11 +9,15 @@ import struct
 from collections import namedtuple
 
 MOST_STEPS = 200_000
-BYTES = {"machine": 4_096, "image": 8_388_608, "schedule": 16_777_216, "text": 16_777_216, "crash": 2_097_152}
-FILES = {"asm": ("text",), "list": ("image",), "upgrade": ("image",),
-         "run": ("machine", "image", "schedule"), "trace": ("machine", "image", "schedule"),
-         "judge": ("machine", "image", "schedule", "crash")}
-GENERATED = ("gen", "gen-image", "gen-schedule")  # these take a seed and a size
+BYTES = {"machine": 4_096, "image": 8_388_608, "schedule": 16_777_216, "text": 16_777_216, "crash": 2_097_152,
+         "cert": 8_388_608}
+RUN = ("MACHINE", "IMAGE", "SCHEDULE", "STOP")
+COMMANDS = {"asm": ("TEXT",), "list": ("IMAGE",), "upgrade": ("IMAGE",), "run": RUN, "trace": RUN, "judge": (*RUN, "CRASH"),
+            "refute": (*RUN, "CRASH"), "check": (*RUN, "CRASH", "CERT"),
+            **dict.fromkeys(("gen", "gen-image", "gen-schedule"), ("SEED", "SIZE"))}
+GENERATED = tuple(command for command, words in COMMANDS.items() if "SEED" in words)
+FILES = {command: tuple(word.lower() for word in words if word.lower() in BYTES) for command, words in COMMANDS.items()
+         if command not in GENERATED}
 CHOICES = {b"mode": (b"strict", b"epoch", b"strand"), b"conflict": (b"stall", b"tag")}
 SIZES = {b"queue": 64, b"buffers": 8, b"ring": 64, b"flight": 64, b"sets": 64, b"ways": 8}
 KEYS = (b"mode", *SIZES)  # those that each machine file gives
@@ -46,7 +50,8 @@ class Refused(Exception):
 
 def number_of(word):
     """The number that decimal digits write, or None."""
-    return int(word) if re.fullmatch(rb"[0-9]+", word) and int(word) < 2**64 else None
+    digits = word.lstrip(b"0") or b"0"
+    return int(digits) if re.fullmatch(rb"[0-9]+", word) and len(digits) <= 20 and int(digits) < 2**64 else None
 
 
 def plain_lines(data):

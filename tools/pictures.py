@@ -42,24 +42,24 @@ class Picture:
         self.labels.append(tag("text", title, text, x=8 + indent, y=middle + 4, font_weight="bold" if bold else "normal"))
 
 
-def word(number):
+def digits(number):
     return f"0x{number:x}"
 
 
-def name_of(event):
+def name_of(run, event):
     """An event in words, as titles have it."""
     text = event.kind
     if event.word is not None:
-        text += f" {word(event.word)}"
+        text += f" {run.names.whole(event.word)}"
     if event.value is not None:
-        text += f" = {word(event.value)}"
+        text += f" = {digits(event.value)}"
     return text if event.persist is None else f"persist {event.persist}: {text}, strand {event.strand}, epoch {event.epoch}"
 
 
 def mark(picture, event, y):
     """What a core retired, by its kind."""
     x, half = picture.middle(event.step), min(5, max(2.5, picture.step / 2 - 0.5))
-    title = f"step {event.step}: {name_of(event)}"
+    title = f"step {event.step}: {name_of(picture.run, event)}"
     if event.persist is None and event.moves:
         title += f"; left the queue at step {event.moves[0]}"
     line = {"stroke": "#222", "stroke_width": 1.3}
@@ -126,11 +126,11 @@ def persist_lane(picture, event, middles):
     middles[event.persist] = y
     times = [event.step, *event.moves, picture.steps + 1]
     strand = f" strand {event.strand}" if picture.run.settings["mode"] == "strand" else ""
-    text = f"{event.persist}: {word(event.word)} = {word(event.value)}"
-    picture.name((text if len(text) <= LONGEST else text[:LONGEST] + "..") + strand, y, 14, is_bold, name_of(event))
+    text, name = f"{event.persist}: {picture.run.names.short(event.word)} = {digits(event.value)}", name_of(picture.run, event)
+    picture.name((text if len(text) <= LONGEST else text[:LONGEST] + "..") + strand, y, 14, is_bold, name)
     for (_, place, colour), begin, end in zip(PLACES, times, times[1:]):
         last = "the end" if end > picture.steps else f"step {end}"
-        picture.back.append(tag("rect", f"{name_of(event)}: {place} from step {begin} to {last}", x=picture.left(begin),
+        picture.back.append(tag("rect", f"{name}: {place} from step {begin} to {last}", x=picture.left(begin),
                                 y=y - 5, width=round(picture.left(end) - picture.left(begin), 2), height=10, fill=colour))
     if is_bold:
         x = picture.left(event.step)

@@ -6,6 +6,7 @@ instruction later; and a difference from the program's report ends the tool with
 """
 import collections
 
+import names
 import runs
 import turns
 
@@ -14,7 +15,7 @@ STORES = {"sb", "sh", "sw", "sd"}
 KINDS = {**dict.fromkeys(LOADS, "load"), **dict.fromkeys(STORES, "store"), "persistbarrier": "barrier",
          "newstrand": "newstrand", "joinstrand": "join", "ecall": "out"}
 BRANCHES = {"beq", "bne", "blt", "bge", "bltu", "bgeu", "jalr"}
-CODE = 0x10000000
+CODE = names.BASES[0]
 
 
 class Event(turns.Event):
@@ -37,7 +38,7 @@ class Core:
 
 
 class Run:
-    """A run: its steps, settings and report, the listing's code, and the trace's events."""
+    """A run: its steps, settings and report, the listing's code, the trace's events, and the image's names."""
 
     def __init__(self, program, machine, image, schedule, stop):
         self.words = (machine, image, schedule)
@@ -49,7 +50,8 @@ class Run:
         self.lives = [life for _, life in runs.cores_of(self.report)]
         listing = runs.ask(program, "list", image)
         begin, end = listing.index(".code") + 1, listing.index(".volatile")
-        self.code = [line.replace(",", " ").split() for line in listing[begin:end]]
+        self.code = [line.replace(",", " ").split() for line in listing[begin:end] if not line.endswith(":")]
+        self.names = names.Names(names.image_of(image))
         self.events = [Event(line.split()[2:]) for line in self.ask("trace", stop) if line.startswith("event ")]
         self.cores = [Core(int(line.split()[1]), (event for event in self.events if event.core == number))
                       for number, line in enumerate(listing[:begin - 1])]

@@ -62,6 +62,11 @@ def numbers_of(report, key):
     return [int(word) for word in line.split(":")[1].split()]
 
 
+def persists_of(trace):
+    """The word that each persist of a trace stores to."""
+    return [int(line.split()[4], 16) for line in trace if " persist " in line]
+
+
 def cores_of(report):
     """Each core's program counter and life."""
     cores = (line.split(maxsplit=4) for line in report if line.startswith("core "))

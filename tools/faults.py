@@ -1,0 +1,147 @@
+"""What a line of fault means: what is said of it, and which word of which line it is about (tools/explain).
+
+Files are read once more, up to their limits, for the words at fault. It is outside of what is proved.
+"""
+import os
+import re
+
+import commands
+import formats
+import marks
+
+KINDS = {"machine": "machine file", "image": "image", "schedule": "schedule", "text": "assembler text", "crash": "crash image",
+         "cert": "certificate"}
+RANGES = {"cores": "1 to 8 cores (4 in a file of version 1)", "code": "1 to 131072 code words (65536 in a file of version 1)",
+          "volatile": "0 to 262144 volatile words (131072 in a file of version 1)",
+          "persistent": "1 to 262144 persistent words (131072 in a file of version 1)", "symbols": "at most 16384 symbols",
+          "names": "at most 1146880 bytes of symbols"}
+BAD_LINES = {"machine": marks.in_machine, "schedule": marks.in_schedule, "cert": marks.in_certificate}
+
+
+class Said:
+    """What is said of a fault, and where there is a line to show, it and the place in it."""
+
+    def __init__(self, message, line=None, place=None):
+        self.message, self.line, self.place = message, line, place
+
+
+class Call:
+    """The words of a command that found a fault, with its files by their numbers."""
+
+    def __init__(self, words):
+        self.words, self.names = words, list(commands.files_of(words).values())
+        self.kinds = formats.FILES.get(words[0], ())
+
+    def data(self, kind):
+        """What a file of this kind holds, up to its limit."""
+        with open(self.names[self.kinds.index(kind)], "rb") as file:
+            return file.read(formats.BYTES[kind])
+
+    def line(self, kind, number):
+        """A line of a file without its end."""
+        data, at = self.data(kind), 0
+        for _ in range(number - 1):
+            at = data.index(b"\n", at) + 1
+        end = data.find(b"\n", at)
+        return data[at:end if end >= 0 else len(data)].removesuffix(b"\r")
+
+
+def why_unread(name):
+    if os.path.isdir(name):
+        return "it is a folder"
+    return "it can't be read" if os.path.lexists(name) else "there is no such file"
+
+
+def limit_in_line(call, kind, line, number):
+    """A number outside its limits in a line of a machine file, a schedule or a certificate."""
+    if kind == "cert":
+        return marks.of_all(line), f"{number} is outside its limits: events are below 2^32, and 200001 lines may have words"
+    if kind == "machine":
+        (_, key), (place, _) = marks.words_of(line)
+        return place, f"{number} is outside its limits: {key.decode()} is 1 to {formats.SIZES[key]}"
+    places, words = zip(*marks.words_of(line))
+    letter, numbers, times = formats.step_of(words)
+    cores = formats.version_of(call.data("image")[:32])[1][0]
+    buffers = formats.read_machine(call.data("machine"))[b"buffers"]
+    dues = {b"c": ("core",), b"d": ("core",), b"s": ("core", "buffer", "place"), b"w": ("place",)}[letter]
+    limits = {"core": (cores, f"the image has {cores}"), "buffer": (buffers, f"a core has {buffers}"),
+              "place": (formats.PLACES, f"there may be {formats.PLACES}")}
+    for at, (due, value) in enumerate(zip(dues, numbers), 1):
+        if value >= limits[due][0]:
+            return places[at], f"there is no {due} {value}: {limits[due][1]}, counted from 0"
+    most = f"a schedule has at most {formats.MOST_STEPS}"
+    if times == number and not 1 <= times <= formats.MOST_STEPS:
+        return places[-1], f"{number} is outside its limits: a line has one step at least, and {most}"
+    return marks.of_all(line), f"up to this line there are {number} steps, and {most}"
+
+
+def undefined_in_line(call, line):
+    """A name that no label has, or none of the code where one of it is due."""
+    place, name = marks.used_name(line)
+    labels = [found.decode() for found in re.findall(rb"(?m)^[ \t]*([A-Za-z_][A-Za-z0-9_]*):", call.data("text"))]
+    if name in labels:
+        return place, f"the label {commands.quoted(name)} stands among data, and one of the code is due"
+    return place, f"no label has the name {commands.quoted(name)}{commands.near(name, labels)}"
+
+
+def range_in_line(line, number):
+    place, operand, fits = marks.field_of(line)
+    makes = "" if operand.decode() == number else f", which makes {number},"
+    return place, f"{marks.told(operand)}{makes} doesn't fit: {fits} does"
+
+
+def fault_in_line(call, kind, what, rest):
+    """The place and the fault of a line that a line of fault tells."""
+    line = call.line(kind, int(rest[0]))
+    if what == "badline":
+        return line, BAD_LINES[kind](line)
+    if what == "repeated":
+        (place, key), *_ = marks.words_of(line)
+        return line, (place, f"line {rest[1]} gave the key {marks.told(key)} before")
+    if what == "duplicate":
+        return line, (marks.label_of(line), f"line {rest[1]} has this label already")
+    if what == "undefined":
+        return line, undefined_in_line(call, line)
+    if what == "range":
+        return line, range_in_line(line, rest[1])
+    if what == "limit":
+        return line, limit_in_line(call, kind, line, int(rest[1]))
+    return line, marks.in_text(line, rest[1])
+
+
+def of_file(call, name, kind, what, rest):
+    """What is wrong with a file as a whole."""
+    if what == "missing":
+        return f"no line gives the key `{rest[0]}'"
+    if what == "magic":
+        return "this is no image (`strand asm TEXT' makes one): it begins with neither STRANDP1 nor STRANDP2"
+    if what in ("short", "long"):
+        return f"too {what} for an image: {rest[1]} bytes, and its numbers want {rest[0]}"
+    if what == "symbol":
+        return f"symbol {rest[0]}, counted from 0, isn't whole, breaks a rule of symbols, or isn't the last"
+    if what == "entry":
+        return f"core {rest[0]} begins at code word {rest[1]}, which there isn't"
+    if what == "crashlength":
+        return f"the persistent words of {call.names[1]} take {rest[0]} bytes in a crash image, and this file has {rest[1]}"
+    if what == "bytes":
+        return f"a file of this kind ({KINDS[kind]}) has at most {rest[0]} bytes"
+    return f"{rest[0]} is outside the limits: there may be {RANGES[what]}"
+
+
+def explain(words, fault):
+    """What a line of fault says, whose words are given behind `fault`."""
+    call, (kind, *rest) = Call(words), fault
+    if kind == "stop":
+        return Said(f"STOP is {rest[0]}, and {call.names[2]} has {rest[1]} steps")
+    if kind == "bank":
+        return Said(f"the image, {call.names[1]}, has {rest[0]} persistent words, and the memory modules have room for {rest[1]}")
+    if rest[0] == "size":
+        return Said(f"SIZE is {rest[1]}, and has to be 1 to 200000")
+    name = call.names[int(rest[0]) - 1]
+    if kind == "file":
+        return Said(f"{name}: {why_unread(name)}")
+    of, what, rest = call.kinds[int(rest[0]) - 1], rest[1], rest[2:]
+    if what in ("line", "badline", "repeated", "duplicate", "undefined", "range"):
+        line, (place, message) = fault_in_line(call, of, "limit" if kind == "limit" else what, rest)
+        return Said(f"{name}, line {rest[0]}: {message}", line, place)
+    return Said(f"{name}: {of_file(call, name, of, what, rest)}")
