@@ -226,7 +226,8 @@ def code_of(draft, at, before, name, operands):
 def assemble(data):
     """The image of a text, or its first fault."""
     draft = Draft(data)
-    image = Image([], [], [], [], sorted(Symbol(SECTIONS.index(label.section), label.place, name) for name, label in draft.labels.items()))
+    symbols = sorted(Symbol(SECTIONS.index(label.section), label.place, name) for name, label in draft.labels.items())
+    image = Image([], [], [], [], symbols)
     data_words = {"volatile": image.volatile, "persist": image.persistent}
     for at, section, before, line in draft.lines:
         name, operands = line.first, line.operands
