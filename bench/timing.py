@@ -20,6 +20,7 @@ import calls  # noqa: E402 (after the line above, which says where it is)
 import formats  # noqa: E402
 
 PROGRAM = os.path.join(TOP, "build", "strand")
+SIZES, LARGEST = (2, 4, 2), (8, 64, 8)  # buffers, sets and ways of a machine
 MODES = ("strict", "epoch", "strand")
 
 LINEAR = 2.2  # how much longer twice the size may take
@@ -59,9 +60,10 @@ def image(entries, code, volatile, persistent):
     return formats.write_image(formats.Image(entries, code, volatile, persistent, ()))
 
 
-def machine(mode, conflict="stall"):
-    """The largest queues, rings and flight, with two buffers a core."""
-    return f"mode {mode}\nqueue 64\nbuffers 2\nring 64\nflight 64\nsets 4\nways 2\nconflict {conflict}\n".encode()
+def machine(mode, conflict="stall", sizes=SIZES):
+    """The largest queues, rings and flight, and where nothing else is said two buffers a core and a small cache."""
+    buffers, sets, ways = sizes
+    return f"mode {mode}\nqueue 64\nbuffers {buffers}\nring 64\nflight 64\nsets {sets}\nways {ways}\nconflict {conflict}\n".encode()
 
 
 def build():
