@@ -2,7 +2,7 @@
 
 Where a file is refused, and for `asm`, `list`, `upgrade`, `gen-image` and `gen-schedule`, that is the whole text. Of a report it is all lines but
 `path`: what the cores did and saw, the bubbles, what the modules hold, the durable persists, and the caches. That line is compared with
-its form alone, and so are a trace and a verdict. It is outside of what is proved.
+its form alone, and so are a trace, a verdict, a certificate and a check. It is outside of what is proved.
 """
 import itertools
 import re
@@ -30,6 +30,8 @@ REPORT = form(rb"stop (N)\n(?:core N pc H LIFE\n(?:reg N x[1-9][0-9]? H\n)*)+(?:
               rb"durable LIST\npath LIST\n(?:cache N hits N misses N\n)+")
 TRACE = form(rb"(?:event N (?:load N H|store N H H(?: persist N)?|barrier N|newstrand N|join N|out N H)\n)*(?:edge N N\n)*")
 VERDICTS = {0: form(rb"yes LIST\n"), 1: form(rb"no H N\n")}
+REFUTATIONS = {0: form(rb"(?:joined N\n|order N N\n|match N (?:N|first)\n)*no H (?:N|first)\n"), 1: VERDICTS[0]}
+CHECKS = {0: form(rb"accepted\n"), 1: form(rb"rejected N\n")}
 SUMMARY = form(rb"gen N N\npersists N\ndurable N\npath N\ndone N\njudge yes N\n")
 LISTS = re.compile(rb"^(?:durable|path|yes) ([0-9]+):(.*)$", re.MULTILINE)
 
@@ -149,7 +151,8 @@ def contents(kind, data, before):
         return formats.read_schedule(data, len(before["image"].entries), before["machine"][b"buffers"])
     if kind == "crash":
         return formats.read_crash(data, len(before["image"].persistent))
-    return {"machine": formats.read_machine, "image": formats.read_image, "text": assembler.assemble}[kind](data)
+    return {"machine": formats.read_machine, "image": formats.read_image, "text": assembler.assemble,
+            "certificate": formats.read_certificate}[kind](data)
 
 
 def of_generated(command, words):
@@ -168,7 +171,8 @@ def of_run(command, found, stop):
     stop = steps if stop == b"end" else formats.number_of(stop)
     if stop > steps:
         return Answer(9, b"fault stop %d %d\n" % (stop, steps))
-    return {"run": Report(found, stop), "trace": Formed({0: TRACE}), "judge": Formed(VERDICTS)}[command]
+    return {"run": Report(found, stop), "trace": Formed({0: TRACE}), "judge": Formed(VERDICTS), "refute": Formed(REFUTATIONS),
+            "check": Formed(CHECKS)}[command]
 
 
 def is_command(words, commands):

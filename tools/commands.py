@@ -24,12 +24,12 @@ def near(word, words):
 def files_of(words):
     """The names of a command's files, by their places among the words."""
     dues = enumerate(zip(words[1:], formats.COMMANDS[words[0]]), 1)
-    return {place: word for place, (word, due) in dues if due.lower() in formats.BYTES}
+    return {place: word for place, (word, due) in dues if due in formats.KINDS}
 
 
 def fault_of(word, due):
     """What is wrong with a word where a file, a number or a STOP is due, or nothing."""
-    if due.lower() in formats.BYTES or (due == "STOP" and word == "end") or formats.number_of(os.fsencode(word)) is not None:
+    if due in formats.KINDS or (due == "STOP" and word == "end") or formats.number_of(os.fsencode(word)) is not None:
         return ""
     end = "`end' or " if due == "STOP" else ""
     return f"{due} is {quoted(word)}, and {end}decimal digits are due, for a number below 2^64"

@@ -10,12 +10,12 @@ import formats
 import marks
 
 KINDS = {"machine": "machine file", "image": "image", "schedule": "schedule", "text": "assembler text", "crash": "crash image",
-         "cert": "certificate"}
+         "certificate": "certificate"}
 RANGES = {"cores": "1 to 8 cores (4 in a file of version 1)", "code": "1 to 131072 code words (65536 in a file of version 1)",
           "volatile": "0 to 262144 volatile words (131072 in a file of version 1)",
           "persistent": "1 to 262144 persistent words (131072 in a file of version 1)", "symbols": "at most 16384 symbols",
           "names": "at most 1146880 bytes of symbols"}
-BAD_LINES = {"machine": marks.in_machine, "schedule": marks.in_schedule, "cert": marks.in_certificate}
+BAD_LINES = {"machine": marks.in_machine, "schedule": marks.in_schedule, "certificate": marks.in_certificate}
 
 
 class Said:
@@ -54,7 +54,7 @@ def why_unread(name):
 
 def limit_in_line(call, kind, line, number):
     """A number outside its limits in a line of a machine file, a schedule or a certificate."""
-    if kind == "cert":
+    if kind == "certificate":
         return marks.of_all(line), f"{number} is outside its limits: events are below 2^32, and 200001 lines may have words"
     if kind == "machine":
         (_, key), (place, _) = marks.words_of(line)

@@ -10,13 +10,15 @@ from collections import namedtuple
 
 MOST_STEPS = 200_000
 BYTES = {"machine": 4_096, "image": 8_388_608, "schedule": 16_777_216, "text": 16_777_216, "crash": 2_097_152,
-         "cert": 8_388_608}
+         "certificate": 8_388_608}
+TEXTS = ("machine", "schedule", "text", "certificate")  # in which a # begins a comment
 RUN = ("MACHINE", "IMAGE", "SCHEDULE", "STOP")
 COMMANDS = {"asm": ("TEXT",), "list": ("IMAGE",), "upgrade": ("IMAGE",), "run": RUN, "trace": RUN, "judge": (*RUN, "CRASH"),
             "refute": (*RUN, "CRASH"), "check": (*RUN, "CRASH", "CERT"),
             **dict.fromkeys(("gen", "gen-image", "gen-schedule"), ("SEED", "SIZE"))}
+KINDS = {"TEXT": "text", "MACHINE": "machine", "IMAGE": "image", "SCHEDULE": "schedule", "CRASH": "crash", "CERT": "certificate"}
 GENERATED = tuple(command for command, words in COMMANDS.items() if "SEED" in words)
-FILES = {command: tuple(word.lower() for word in words if word.lower() in BYTES) for command, words in COMMANDS.items()
+FILES = {command: tuple(KINDS[word] for word in words if word in KINDS) for command, words in COMMANDS.items()
          if command not in GENERATED}
 CHOICES = {b"mode": (b"strict", b"epoch", b"strand"), b"conflict": (b"stall", b"tag")}
 SIZES = {b"queue": 64, b"buffers": 8, b"ring": 64, b"flight": 64, b"sets": 64, b"ways": 8}
@@ -29,6 +31,9 @@ VERSIONS = {b"STRANDP1": FIRST_QUANTITIES, b"STRANDP2": QUANTITIES}
 LABEL = re.compile(rb"[A-Za-z_][A-Za-z0-9_]{0,63}")
 STEP_WORDS = {b"c": 1, b"d": 1, b"s": 3, b"w": 1}
 PLACES = 64  # of a buffer or in flight: J is below this
+# The lines of a certificate, where N is the number of an event and H an address; and how many with words there may be.
+CERTIFICATE_LINES = (b"joined N", b"order N N", b"match N N", b"match N first", b"no H N", b"no H first")
+MOST_CERTIFICATE_LINES = MOST_STEPS + 1
 
 Image = namedtuple("Image", "entries code volatile persistent symbols")
 Symbol = namedtuple("Symbol", "region place name")  # the region is 0, 1 or 2: code, volatile or persistent words
@@ -120,6 +125,37 @@ def read_schedule(data, cores, buffers):
         if steps > MOST_STEPS:
             raise Refused("limit", "line", at, steps)
         found.append(step)
+    return found
+
+
+def is_certificate_word(kind, word):
+    if kind == b"N":
+        return number_of(word) is not None
+    return re.fullmatch(rb"[0-9a-f]{16}", word) if kind == b"H" else word == kind
+
+
+def events_of(words):
+    """The events that a line of a certificate names, or None where it is no such line."""
+    for line in CERTIFICATE_LINES:
+        kinds = line.split()
+        if len(kinds) == len(words) and all(map(is_certificate_word, kinds, words)):
+            return [number_of(word) for kind, word in zip(kinds, words) if kind == b"N"]
+    return None
+
+
+def read_certificate(data):
+    """The words of its lines."""
+    found = []
+    for at, words in lines_of(data):
+        events = events_of(words)
+        if events is None or (found and found[-1][0] == b"no"):
+            raise Refused("input", "badline", at)
+        for event in events:
+            if event >= 2**32:
+                raise Refused("limit", "line", at, event)
+        found.append(words)
+        if len(found) > MOST_CERTIFICATE_LINES:
+            raise Refused("limit", "line", at, len(found))
     return found
 
 

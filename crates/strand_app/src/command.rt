@@ -144,7 +144,8 @@ fn five_files<'a>(
     certificate: &'a str,
 ) -> Option<Command<'a>>
     ensures { option_map view result
-        ≡ five_files word.now words.entry.machine.now words.entry.image.now words.entry.schedule.now crash.now certificate.now words.entry.stop }
+        ≡ five_files word.now words.entry.machine.now words.entry.image.now
+        words.entry.schedule.now crash.now certificate.now words.entry.stop }
 {
     if word == "check" {
         Some(Command::Check {

@@ -31,15 +31,15 @@ returns-in_err-crash-clause-opens g c =
     let after = g.F.Files.seen c.fetch_crash.new.files in
     let names = names_of c.args.words in
     let crash = c.args.crash.now in
-    let cert = c.args.certificate.now in
+    let certificate = c.args.certificate.now in
     let u = all_inputs c.in_ok-all.all in
     let opened = c.in_ok-all.ensures.opens in
-    subst (λ (r : Result CodeClaim OpenFault). OpensTo (names ++ crash ∷ cert ∷ []) (check_reads c.args.size c.args.words.stop) claim_of before after r) (sym (e.1 ∙ ap Err e.2))
-    (fails_next (names ++ crash ∷ cert ∷ []) before between after (contents names crash cert refl before between c.args.size c.args.words.stop u opened) crash
-    (first names crash cert refl before between c.args.size c.args.words.stop u opened) refl c.in_err-crash.ensures.says.0
+    subst (λ (r : Result CodeClaim OpenFault). OpensTo (names ++ crash ∷ certificate ∷ []) (check_reads c.args.size c.args.words.stop) claim_of before after r) (sym (e.1 ∙ ap Err e.2))
+    (fails_next (names ++ crash ∷ certificate ∷ []) before between after (contents names crash certificate refl before between c.args.size c.args.words.stop u opened) crash
+    (first names crash certificate refl before between c.args.size c.args.words.stop u opened) refl c.in_err-crash.ensures.says.0
     (check_reads c.args.size c.args.words.stop) claim_of 4 (crash_in c.in_ok-all.all.image) (λ words. words) refl
-    (wants_crash names crash cert refl before between c.args.size c.args.words.stop u opened)
-    (refuses_crash names crash cert refl before between c.args.size c.args.words.stop u opened) c.in_err-crash.field-0.0 c.in_err-crash.ensures.says)
+    (wants_crash names crash certificate refl before between c.args.size c.args.words.stop u opened)
+    (refuses_crash names crash certificate refl before between c.args.size c.args.words.stop u opened) c.in_err-crash.field-0.0 c.in_err-crash.ensures.says)
 
 pub returns-in_err-certificate-clause-opens : goal.returns-in_err-certificate-clause-opens
 returns-in_err-certificate-clause-opens g c =
@@ -50,16 +50,16 @@ returns-in_err-certificate-clause-opens g c =
     let after = g.F.Files.seen c.fetch_certificate.new.files in
     let names = names_of c.args.words in
     let crash = c.args.crash.now in
-    let cert = c.args.certificate.now in
+    let certificate = c.args.certificate.now in
     let u = all_inputs c.in_ok-all.all in
     let opened = c.in_ok-all.ensures.opens in
     let read = c.in_ok-crash.ensures.says in
-    subst (λ (r : Result CodeClaim OpenFault). OpensTo (names ++ crash ∷ cert ∷ []) (check_reads c.args.size c.args.words.stop) claim_of before after r) (sym (e.1 ∙ ap Err e.2))
-    (fails_next (names ++ crash ∷ cert ∷ []) before middle after (four names crash cert refl before between c.args.size c.args.words.stop u opened middle read.0 c.in_ok-crash.crash read.1.content read.1.gives read.1.is refl) cert
-    (first_four names crash cert refl before between c.args.size c.args.words.stop u opened middle read.0 c.in_ok-crash.crash read.1.content read.1.gives read.1.is refl) refl c.in_err-certificate.ensures.0
+    subst (λ (r : Result CodeClaim OpenFault). OpensTo (names ++ crash ∷ certificate ∷ []) (check_reads c.args.size c.args.words.stop) claim_of before after r) (sym (e.1 ∙ ap Err e.2))
+    (fails_next (names ++ crash ∷ certificate ∷ []) before middle after (four names crash certificate refl before between c.args.size c.args.words.stop u opened middle read.0 c.in_ok-crash.crash read.1.content read.1.gives read.1.is refl) certificate
+    (first_four names crash certificate refl before between c.args.size c.args.words.stop u opened middle read.0 c.in_ok-crash.crash read.1.content read.1.gives read.1.is refl) refl c.in_err-certificate.ensures.0
     (check_reads c.args.size c.args.words.stop) claim_of 5 certificate_in (λ certificate. certificate) refl
-    (wants_certificate names crash cert refl before between c.args.size c.args.words.stop u opened middle read.0 c.in_ok-crash.crash read.1.content read.1.gives read.1.is refl)
-    (refuses_certificate names crash cert refl before between c.args.size c.args.words.stop u opened middle read.0 c.in_ok-crash.crash read.1.content read.1.gives read.1.is refl) c.in_err-certificate.field-0.0 c.in_err-certificate.ensures)
+    (wants_certificate names crash certificate refl before between c.args.size c.args.words.stop u opened middle read.0 c.in_ok-crash.crash read.1.content read.1.gives read.1.is refl)
+    (refuses_certificate names crash certificate refl before between c.args.size c.args.words.stop u opened middle read.0 c.in_ok-crash.crash read.1.content read.1.gives read.1.is refl) c.in_err-certificate.field-0.0 c.in_err-certificate.ensures)
 
 pub returns-in_err-setup-clause-opens : goal.returns-in_err-setup-clause-opens
 returns-in_err-setup-clause-opens g c =
@@ -70,13 +70,13 @@ returns-in_err-setup-clause-opens g c =
     let after = g.F.Files.seen c.fetch_certificate.new.files in
     let names = names_of c.args.words in
     let crash = c.args.crash.now in
-    let cert = c.args.certificate.now in
+    let certificate = c.args.certificate.now in
     let u = all_inputs c.in_ok-all.all in
     let opened = c.in_ok-all.ensures.opens in
     let read = c.in_ok-crash.ensures.says in
     let read' = c.in_ok-certificate.ensures in
-    subst (λ (r : Result CodeClaim OpenFault). OpensTo (names ++ crash ∷ cert ∷ []) (check_reads c.args.size c.args.words.stop) claim_of before after r) (sym (e.1 ∙ ap Err e.2))
-    (opens_claim names crash cert refl before between c.args.size c.args.words.stop u opened middle read.0 c.in_ok-crash.crash read.1.content read.1.gives read.1.is refl
+    subst (λ (r : Result CodeClaim OpenFault). OpensTo (names ++ crash ∷ certificate ∷ []) (check_reads c.args.size c.args.words.stop) claim_of before after r) (sym (e.1 ∙ ap Err e.2))
+    (opens_claim names crash certificate refl before between c.args.size c.args.words.stop u opened middle read.0 c.in_ok-crash.crash read.1.content read.1.gives read.1.is refl
     after read'.0 c.in_ok-certificate.certificate read'.1.content read'.1.gives read'.1.is refl (Err c.in_err-setup.field-0.0) c.in_err-setup.ensures.cut_off)
 
 pub returns-clause-opens : goal.returns-clause-opens
@@ -87,12 +87,12 @@ returns-clause-opens g c =
     let after = g.F.Files.seen c.fetch_certificate.new.files in
     let names = names_of c.args.words in
     let crash = c.args.crash.now in
-    let cert = c.args.certificate.now in
+    let certificate = c.args.certificate.now in
     let u = all_inputs c.in_ok-all.all in
     let opened = c.in_ok-all.ensures.opens in
     let read = c.in_ok-crash.ensures.says in
     let read' = c.in_ok-certificate.ensures in
-    opens_claim names crash cert refl before between c.args.size c.args.words.stop u opened middle read.0 c.in_ok-crash.crash read.1.content read.1.gives read.1.is refl
+    opens_claim names crash certificate refl before between c.args.size c.args.words.stop u opened middle read.0 c.in_ok-crash.crash read.1.content read.1.gives read.1.is refl
     after read'.0 c.in_ok-certificate.certificate read'.1.content read'.1.gives read'.1.is refl (Ok (inputs_of c.in_ok-setup.setup)) c.in_ok-setup.ensures.cut_off
 
 pub returns-clause-ready : goal.returns-clause-ready
