@@ -39,12 +39,15 @@ Image = namedtuple("Image", "entries code volatile persistent symbols")
 Symbol = namedtuple("Symbol", "region place name")  # the region is 0, 1 or 2: code, volatile or persistent words
 
 
-class Refused(Exception):
+class Refused(ValueError):
     """The first fault of a file: `input` or `limit`, and what stands behind the file's number in the line of fault."""
 
     def __init__(self, kind, *rest):
         super().__init__(kind, rest)
         self.kind, self.rest = kind, " ".join(map(str, rest))
+
+    def __str__(self):
+        return self.rest
 
     def status(self):
         return 8 if self.kind == "limit" else 3

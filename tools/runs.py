@@ -10,20 +10,31 @@ TOP = os.path.dirname(os.path.dirname(os.path.abspath(__file__)))
 PROGRAM = os.path.join(TOP, "strand")
 
 
-def stop(message):
-    """Ends with a word on standard error and status 1."""
-    sys.exit(f"{os.path.basename(sys.argv[0])}: {message}")
+def stop(message, status=1):
+    """Ends with a word on standard error and this status."""
+    print(f"{os.path.basename(sys.argv[0])}: {message}", file=sys.stderr)
+    sys.exit(status)
 
 
-def ask(program, *words):
-    """The lines that the program puts for these words. A fault ends this tool, with the program's line."""
+def answer(program, *words):
+    """The lines that the program puts for these words, and its status."""
     try:
         done = subprocess.run([program, *words], stdin=subprocess.DEVNULL, stdout=subprocess.PIPE)
     except OSError as fault:
         stop(f"{program}: {fault.strerror}")
-    lines = done.stdout.decode("ascii").splitlines()
-    if done.returncode != 0:
-        stop(f"`{' '.join(words)}` ends with status {done.returncode}: {lines[-1] if lines else 'no line'}")
+    return done.stdout.decode("ascii").splitlines(), done.returncode
+
+
+def fault_of(words, lines, status):
+    """A sentence on an answer that isn't the one asked for."""
+    return f"`{' '.join(words)}` ends with status {status}: {lines[-1] if lines else 'no line'}"
+
+
+def ask(program, *words):
+    """The lines that the program puts for these words. A fault ends this tool, with the program's line."""
+    lines, status = answer(program, *words)
+    if status != 0:
+        stop(fault_of(words, lines, status))
     return lines
 
 
