@@ -11,17 +11,31 @@ use strand_inputs::{Stop, read_stop};
 #[derive(Clone, Copy)]
 pub enum Command<'a> {
     /// `asm TEXT`: the image of an assembler text.
-    Asm { text: &'a str },
+    Asm {
+        text: &'a str,
+    },
     /// `list IMAGE`: the listing of an image.
-    List { image: &'a str },
+    List {
+        image: &'a str,
+    },
     /// `upgrade IMAGE`: the image in version 2.
-    Upgrade { image: &'a str },
+    Upgrade {
+        image: &'a str,
+    },
     /// `run MACHINE IMAGE SCHEDULE STOP`: the report of a run.
-    Run { words: RunWords<'a> },
+    Run {
+        words: RunWords<'a>,
+    },
     /// `judge MACHINE IMAGE SCHEDULE STOP CRASH`: the verdict on a crash image.
-    Judge { words: RunWords<'a>, crash: &'a str },
+    Judge {
+        words: RunWords<'a>,
+        crash: &'a str,
+    },
     /// `refute MACHINE IMAGE SCHEDULE STOP CRASH`: a certificate of no on a crash image.
-    Refute { words: RunWords<'a>, crash: &'a str },
+    Refute {
+        words: RunWords<'a>,
+        crash: &'a str,
+    },
     /// `check MACHINE IMAGE SCHEDULE STOP CRASH CERT`: whether such a certificate is accepted.
     Check {
         words: RunWords<'a>,
@@ -29,13 +43,24 @@ pub enum Command<'a> {
         certificate: &'a str,
     },
     /// `trace MACHINE IMAGE SCHEDULE STOP`: the events of a run, and the edges of their graph.
-    Trace { words: RunWords<'a> },
+    Trace {
+        words: RunWords<'a>,
+    },
     /// `gen SEED SIZE`: the summary of a generated run.
-    Gen { seed: u64, size: u64 },
+    Gen {
+        seed: u64,
+        size: u64,
+    },
     /// `gen-image SEED SIZE`: its image.
-    GenImage { seed: u64, size: u64 },
+    GenImage {
+        seed: u64,
+        size: u64,
+    },
     /// `gen-schedule SEED SIZE`: its schedule.
-    GenSchedule { seed: u64, size: u64 },
+    GenSchedule {
+        seed: u64,
+        size: u64,
+    },
 }
 
 /// The files of a run, and where it is cut off.
