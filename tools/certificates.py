@@ -48,7 +48,7 @@ class Order:
 
 
 class Certified:
-    """The persistent words before the run and after the crash; and for each word its first persist with the value that was found."""
+    """The persistent words before the run and after the crash; and for each word the first persist with the value found."""
 
     def __init__(self, order, initial, crash):
         self.order = order
