@@ -22,7 +22,7 @@ use Rattle.strand_app.specs.Files.{AreFirst, Says, Opened}
 use Rattle.strand_app.specs.Reads.{Contents, Reads}
 use Rattle.strand_app.specs.Rule.{Rule, Text, ShownBy}
 use Rattle.strand_app.specs.Runs.{Makes, ComesTo, GivesUp, Runs, Stops}
-use Rattle.strand_app.specs.Tells.{IsTold, Tells, Refutes, Holds}
+use Rattle.strand_app.specs.Tells.{IsTold, Tells, TellsNo, Holds}
 use Rattle.strand_app.specs.World.{Outside}
 use Rattle.strand_app.proofs.Laws.{Means, MeetsRefusal, Sound}
 
@@ -142,11 +142,11 @@ module _ (r : Rule) (W : Type 0) (sound : Sound r W) (before after : Outside) wh
       let c = came status.Words (λ e. cc) (λ e. cc) runs in
       means status.Words c.text (own status.Words c.text (λ x. x) (λ e. cc) c.made)
 
-  refutes : Runs r before after status.No → Refutes r before after
-  refutes runs =
+  tells_no : Runs r before after status.No → TellsNo r before after
+  tells_no runs =
       let c = came status.No (λ e. cc) (λ e. cc) runs in
       let made = own status.No c.text (λ x. x) (λ e. cc) c.made in
-      record { found = made.found; opened = made.opened; text = c.text; taken = c.taken; refutes = means status.No c.text made }
+      record { found = made.found; opened = made.opened; text = c.text; taken = c.taken; means_no = means status.No c.text made }
 
   bank_refused : Runs r before after status.ModuleFault → ModuleCause r before after
   bank_refused runs =
@@ -236,8 +236,8 @@ module _ (r : Rule) (W : Type 0) (sound : Sound r W) (before after : Outside) wh
     tells_of (inr (inl e)) = subst (Tells r before after) (sym e) (no (ends_as status.No e))
     tells_of (inr (inr e)) = subst (Tells r before after) (sym e) (refused_store (ends_as status.ModuleFault e))
 
-    pub refutes_of : result ≡ status.No → Refutes r before after
-    refutes_of e = refutes (ends_as status.No e)
+    pub tells_no_of : result ≡ status.No → TellsNo r before after
+    tells_no_of e = tells_no (ends_as status.No e)
 
     pub memory_of : result ≡ status.Memory → GivesUp r before after status.Memory
     memory_of e = memory (ends_as status.Memory e)

@@ -63,14 +63,14 @@ module _ {Found : Type 0} (rule : List ℕ → Result Found ContentFault) (text_
       refused_comes (still_rule Found (name ∷ []) (file 1 rule) text_of bank) (λ f. f) before after bank fault result (one_failed rule (λ f. f) name before after fault fetches) answers
 
 -- What the files say was run on the bank.
-pub stepping_comes : (Found : Type 0) (inputs_of : Found → Inputs) (heading : Text) (Puts : Found → BankSeen → Course → Status → Text → Type 0) (Refutes : Found → Text → Type 0) (names : List (List ℕ)) (opens : Contents → Reads Found)
+pub stepping_comes : (Found : Type 0) (inputs_of : Found → Inputs) (heading : Text) (Puts : Found → BankSeen → Course → Status → Text → Type 0) (MeansNo : Found → Text → Type 0) (names : List (List ℕ)) (opens : Contents → Reads Found)
     (before after : FilesSeen) (bank bank' : BankSeen) (found : Found) (result : Result Made NoMemory) → Opened names opens before after (Ok found) → MakesByCourse (inputs_of found) bank bank' (Puts found bank) result
-    → Comes (stepping_rule Found inputs_of heading Puts Refutes names opens bank) (world before bank) (world after bank') result
-stepping_comes Found inputs_of heading Puts Refutes names opens before after bank bank' found (Ok made) opened puts =
+    → Comes (stepping_rule Found inputs_of heading Puts MeansNo names opens bank) (world before bank) (world after bank') result
+stepping_comes Found inputs_of heading Puts MeansNo names opens before after bank bank' found (Ok made) opened puts =
     inl (record { found = found; opened = opened; fault = Some puts.fault; allowed = puts.allowed; shown = puts.shown; kept = puts.kept; leaves = puts.leaves; puts = puts.puts })
-stepping_comes Found inputs_of heading Puts Refutes names opens before after bank bank' found (Err e) opened may = inl (record { found = found; opened = opened; kept = may.0; leaves = may.1 })
+stepping_comes Found inputs_of heading Puts MeansNo names opens before after bank bank' found (Err e) opened may = inl (record { found = found; opened = opened; kept = may.0; leaves = may.1 })
 
-pub machine_comes : (Found : Type 0) (inputs_of : Found → Inputs) (Whole : Found → BankSeen → Status → Text → Type 0) (Refutes : Found → Text → Type 0) (names : List (List ℕ)) (opens : Contents → Reads Found)
+pub machine_comes : (Found : Type 0) (inputs_of : Found → Inputs) (Whole : Found → BankSeen → Status → Text → Type 0) (MeansNo : Found → Text → Type 0) (names : List (List ℕ)) (opens : Contents → Reads Found)
     (before after : FilesSeen) (bank bank' : BankSeen) (found : Found) (result : Result Made NoMemory) → Opened names opens before after (Ok found) → MakesOnBank (inputs_of found) bank bank' (Whole found bank) result
-    → Comes (machine_rule Found inputs_of Whole Refutes names opens bank) (world before bank) (world after bank') result
+    → Comes (machine_rule Found inputs_of Whole MeansNo names opens bank) (world before bank) (world after bank') result
 machine_comes Found inputs_of Whole = stepping_comes Found inputs_of [] (λ found bank. PutsRun (inputs_of found) bank (Whole found bank))

@@ -11,7 +11,7 @@ use Rattle.strand_app.specs.Rule.{Rule, Text}
 -- What each answer means that a rule puts, where the words are no command by W.
 abbrev pub Means : (r : Rule) → Type 0 → r.Found → Option Course → Status → Text → Type 0
 Means r W found f status.Ok text = Unit {0}
-Means r W found f status.No text = r.Refutes found text
+Means r W found f status.No text = r.MeansNo found text
 Means r W found f status.Words text = W
 Means r W found f status.ModuleFault text = IsSomeAnd f (λ b. TellsRefusal r.heading b text)
 Means r W found f _ text = ⊥

@@ -57,20 +57,20 @@ still_sound Found names opens text_of before W = record {
 }
 
 -- what each answer of a run means that met no refusal: it is ok, or a no with its refutation
-abbrev Meant : (Refutes : Text → Type 0) → Status → Text → Type 0
-Meant Refutes status.Ok text = Unit {0}
-Meant Refutes status.No text = Refutes text
-Meant Refutes _ text = ⊥
+abbrev Meant : (MeansNo : Text → Type 0) → Status → Text → Type 0
+Meant MeansNo status.Ok text = Unit {0}
+Meant MeansNo status.No text = MeansNo text
+Meant MeansNo _ text = ⊥
 
-module _ (Found : Type 0) (inputs_of : Found → Inputs) (heading : Text) (Puts : Found → BankSeen → Course → Status → Text → Type 0) (Refutes : Found → Text → Type 0) (names : List (List ℕ)) (opens : Contents → Reads Found) (before : BankSeen)
+module _ (Found : Type 0) (inputs_of : Found → Inputs) (heading : Text) (Puts : Found → BankSeen → Course → Status → Text → Type 0) (MeansNo : Found → Text → Type 0) (names : List (List ℕ)) (opens : Contents → Reads Found) (before : BankSeen)
     (W : Type 0) where
   abbrev r : Rule
-  r = stepping_rule Found inputs_of heading Puts Refutes names opens before
+  r = stepping_rule Found inputs_of heading Puts MeansNo names opens before
 
   of_refusal : (found : Found) (b : Course) (end : Status) (text : Text) → end ≡ status.ModuleFault → TellsRefusal heading b text → Means r W found (Some b) end text
   of_refusal found b end text is tells = subst (λ (s : Status). Means r W found (Some b) s text) (sym is) tells
 
-  of_meant : (found : Found) (b : Course) (end : Status) (text : Text) → Meant (Refutes found) end text → Means r W found (Some b) end text
+  of_meant : (found : Found) (b : Course) (end : Status) (text : Text) → Meant (MeansNo found) end text → Means r W found (Some b) end text
   of_meant found b status.Ok text is = tt
   of_meant found b status.No text is = is
   of_meant found b _ text is = absurd is
@@ -91,8 +91,8 @@ module _ (Found : Type 0) (inputs_of : Found → Inputs) (heading : Text) (Puts 
       of_leaves found None after leaves = absurd leaves
       of_leaves found (Some b) after leaves = leaves_allowed (inputs_of found) b before after leaves
 
-module _ (Found : Type 0) (inputs_of : Found → Inputs) (Whole : Found → BankSeen → Status → Text → Type 0) (Refutes : Found → Text → Type 0) (names : List (List ℕ)) (opens : Contents → Reads Found) (before : BankSeen) (W : Type 0)
-    (meant : (found : Found) (end : Status) (text : Text) → Whole found before end text → Meant (Refutes found) end text) where
+module _ (Found : Type 0) (inputs_of : Found → Inputs) (Whole : Found → BankSeen → Status → Text → Type 0) (MeansNo : Found → Text → Type 0) (names : List (List ℕ)) (opens : Contents → Reads Found) (before : BankSeen) (W : Type 0)
+    (meant : (found : Found) (end : Status) (text : Text) → Whole found before end text → Meant (MeansNo found) end text) where
   abbrev Puts : Found → BankSeen → Course → Status → Text → Type 0
   Puts found bank = PutsRun (inputs_of found) bank (Whole found bank)
 
@@ -101,14 +101,14 @@ module _ (Found : Type 0) (inputs_of : Found → Inputs) (Whole : Found → Bank
   last u f text puts =
       let ends = last_line (view_after u (take (f.step - 1) u.steps) puts.held (Some f)) puts.reports.chain (store_fault f) refl in (ends.0, puts.reports.is ∙ ends.1)
 
-  refuses : (found : Found) (b : Course) (end : Status) (text : Text) → end ≡ status.ModuleFault → TellsRefusal [] b text → Means (machine_rule Found inputs_of Whole Refutes names opens before) W found (Some b) end text
-  refuses = of_refusal Found inputs_of [] Puts Refutes names opens before W
+  refuses : (found : Found) (b : Course) (end : Status) (text : Text) → end ≡ status.ModuleFault → TellsRefusal [] b text → Means (machine_rule Found inputs_of Whole MeansNo names opens before) W found (Some b) end text
+  refuses = of_refusal Found inputs_of [] Puts MeansNo names opens before W
 
-  of_run : (found : Found) (b : Course) (end : Status) (text : Text) → PutsRun (inputs_of found) before (Whole found before) b end text → Means (machine_rule Found inputs_of Whole Refutes names opens before) W found (Some b) end text
+  of_run : (found : Found) (b : Course) (end : Status) (text : Text) → PutsRun (inputs_of found) before (Whole found before) b end text → Means (machine_rule Found inputs_of Whole MeansNo names opens before) W found (Some b) end text
   of_run found (fill m) end text puts = refuses found (fill m) end text puts.0 puts.1
   of_run found (ran store (Some n)) end text puts = refuses found (ran store (Some n)) end text puts.0 puts.1
   of_run found (ran (Some f) None) end text puts = refuses found (ran (Some f) None) end text puts.0 (last (inputs_of found) f text puts.1)
-  of_run found (ran None None) end text puts = of_meant Found inputs_of [] Puts Refutes names opens before W found (ran None None) end text (meant found end text puts)
+  of_run found (ran None None) end text puts = of_meant Found inputs_of [] Puts MeansNo names opens before W found (ran None None) end text (meant found end text puts)
 
   of_answers : (found : Found) (b : Course) (end : Status) (text : Text) → Puts found before b end text → MeetsRefusal (Some b) → end ≡ status.ModuleFault
   of_answers found (fill m) end text puts meets = puts.0
@@ -116,8 +116,8 @@ module _ (Found : Type 0) (inputs_of : Found → Inputs) (Whole : Found → Bank
   of_answers found (ran (Some f) None) end text puts meets = puts.0
   of_answers found (ran None None) end text puts meets = absurd meets
 
-  machine_sound : Sound (machine_rule Found inputs_of Whole Refutes names opens before) W
-  machine_sound = stepping_sound Found inputs_of [] Puts Refutes names opens before W of_run of_answers
+  machine_sound : Sound (machine_rule Found inputs_of Whole MeansNo names opens before) W
+  machine_sound = stepping_sound Found inputs_of [] Puts MeansNo names opens before W of_run of_answers
 
 report_meant : (u : Inputs) (before : BankSeen) (end : Status) (text : Text) → PutsReport u before end text → Meant (λ t. ⊥) end text
 report_meant u before end text puts = subst (λ (s : Status). Meant (λ t. ⊥) s text) (sym puts.0) tt

@@ -21,7 +21,7 @@ PutsRun u before Whole (ran None None) end text = Whole end text
 
 -- What is found in its files says what is run. By the course of the run it puts this, on a bank as it stands at entry, with this heading before a refusal; and this is what a no says.
 abbrev pub stepping_rule : (Found : Type 0) → (Found → Inputs) → (heading : Text) → (Found → BankSeen → Course → Status → Text → Type 0) → (Found → Text → Type 0) → List (List ℕ) → (Contents → Reads Found) → BankSeen → Rule
-stepping_rule Found inputs_of heading Puts Refutes names opens before = record {
+stepping_rule Found inputs_of heading Puts MeansNo names opens before = record {
   names = names;
   Found = Found;
   opens = opens;
@@ -32,7 +32,7 @@ stepping_rule Found inputs_of heading Puts Refutes names opens before = record {
   MayLeave = λ found after. MayLeave (inputs_of found) before after;
   Holds = λ found fault after. IsSomeAnd fault (λ b. LeavesAllowed (inputs_of found) b before after);
   MayHold = λ found after. MayLeaveAllowed (inputs_of found) before after;
-  Refutes = Refutes;
+  MeansNo = MeansNo;
 }
 
 -- With a run that met no refusal it puts this, and otherwise what `PutsRun` says.

@@ -19,5 +19,5 @@ no_command before = record {
   MayLeave = λ found after. ⊥;
   Holds = λ found fault after. after ≡ before;
   MayHold = λ found after. ⊥;
-  Refutes = λ found text. ⊥;
+  MeansNo = λ found text. ⊥;
 }

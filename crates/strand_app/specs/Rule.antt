@@ -30,7 +30,7 @@ pub record Rule : Type 1 where
   pub Holds : Found → Option Course → BankSeen → Type 0
   pub MayHold : Found → BankSeen → Type 0
   -- and what a no says.
-  pub Refutes : Found → Text → Type 0
+  pub MeansNo : Found → Text → Type 0
 
 -- what the bank shows of a course: where nothing was run, that it wasn't touched
 abbrev pub ShownBy : BankSeen → BankSeen → Option Course → Type 0

@@ -18,5 +18,5 @@ still_rule Found names opens text_of before = record {
   MayLeave = λ found after. after ≡ before;
   Holds = λ found fault after. after ≡ before;
   MayHold = λ found after. after ≡ before;
-  Refutes = λ found text. ⊥;
+  MeansNo = λ found text. ⊥;
 }

@@ -28,12 +28,12 @@ module _ (r : Rule) (before after : Outside) where
     pub holds : r.Holds found fault after.world.bank
 
   -- The answer is no, and this is what it says: of `judge` and `gen` that no set is judged, of `refute` that one is, of `check` that a line isn't accepted.
-  pub record Refutes : Type 0 where
+  pub record TellsNo : Type 0 where
     pub found : r.Found
     pub opened : Opened r.names r.opens before.world.files after.world.files (Ok found)
     pub text : Text
     pub taken : Takes before.sink.taken after.sink.taken text
-    pub refutes : r.Refutes found text
+    pub means_no : r.MeansNo found text
 
   -- What the bank holds is what one course leaves in it that the run may take and the bank shows.
   pub record HoldsOne : Type 0 where

@@ -8,7 +8,7 @@ ghost use Rattle.strand_app.specs.Completeness.{NothingIsRefused, IsQuiet, IsWho
 ghost use Rattle.strand_app.specs.Ends.{Ends};
 ghost use Rattle.strand_app.specs.RuleOf.{rule_of};
 ghost use Rattle.strand_app.specs.Runs.{Comes, Runs};
-ghost use Rattle.strand_app.specs.Tells.{Holds, IsTold, Refutes, Tells};
+ghost use Rattle.strand_app.specs.Tells.{Holds, IsTold, TellsNo, Tells};
 ghost use Rattle.strand_app.specs.World.{outside, world};
 ghost use Rattle.strand_modules.specs.Seen.{bank_seen};
 ghost use Rattle.strand_report.specs.FaultLines.{words_fault};
@@ -101,7 +101,7 @@ pub fn strand_main<F: Files, K: Sink>(
 
     // No comes only where `judge` or `gen` has no judged set, where `refute` has one, or where `check` rejects: and
     // word and rank, the least set, or the line's number show it.
-    ensures no { result ≡ Status.No → Refutes (asked_rule words.now (bank_seen holds bank.old))
+    ensures no { result ≡ Status.No → TellsNo (asked_rule words.now (bank_seen holds bank.old))
         (outside (F.seen files.old) (bank_seen holds bank.old) (K.seen out.old))
         (outside (F.seen files.new) (bank_seen holds bank.new) (K.seen out.new)) }
 

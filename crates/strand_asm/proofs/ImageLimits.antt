@@ -74,11 +74,11 @@ none_stray es words all =
     let no : ltb (length es) (length es) ≡ false = grind (arith, nat_tests) in
     rw (len, no) refl
 
-limits_pass : (a b c d e : ℕ) → is_within Cores a ≡ true → is_within Code b ≡ true → is_within Volatile c ≡ true → is_within Persistent d ≡ true → is_within Symbols e ≡ true → image.image_limits a b c d e ≡ Ok tt
+limits_pass : (a b c d e : ℕ) → is_within Cores a ≡ true → is_within Code b ≡ true → is_within Volatile c ≡ true → is_within Persistent d ≡ true → is_within Symbols e ≡ true → image.within_image_limits a b c d e ≡ Ok tt
 unfolding image.within_limits
 limits_pass a b c d e p q r s t = rw (p, q, r, s, t) refl
 
-makes : (p : ImageSeen) → AreSymbols (sizes_of p) p.symbols → image.image_limits (length p.entries) (length p.code) (length p.volatile) (length p.persistent) (length p.symbols) ≡ Ok tt → AreEntries p.entries (length p.code) → image.checked_image p ≡ Ok p
+makes : (p : ImageSeen) → AreSymbols (sizes_of p) p.symbols → image.within_image_limits (length p.entries) (length p.code) (length p.volatile) (length p.persistent) (length p.symbols) ≡ Ok tt → AreEntries p.entries (length p.code) → image.checked_image p ≡ Ok p
 unfolding image.checked_image image.kept_image image.entries_exist image.symbols_stand
 makes p symbols e all =
     let kept = none_broken (sizes_of p) p.symbols symbols in

@@ -1,4 +1,4 @@
--- Serves the clauses of rules_kept and kept_image, again of write_image: the rules on symbols, one by one and all together.
+-- Serves the clauses of count_before_fault and kept_image, again of write_image: the rules on symbols, one by one and all together.
 use Rattle.std.proofs.Common.{min, zero-add, ◌⊎◌, ◌≡◌, ℕ, zero, suc, ◌+◌, ◌-◌, ◌<◌, ◌≤◌, arith, inl, inr, Bool, true, false, ◌&&◌, ◌||◌, ◌==◌, List, [], ◌∷◌, ◌++◌, length, take, get_or, refl, sym, ap, ◌∙◌, append_assoc}
 use Rattle.std.specs.Prelude.{nat_le}
 use Rattle.std.specs.List.{list_all}
@@ -13,9 +13,9 @@ use Rattle.std.proofs.lemmas.Cmp.{then_total, on_total, nat_cmp_total, nat_list_
 use Rattle.std.proofs.lemmas.List.{append-nil, length-append, length-map, length-take, get_or-take, get_or-map}
 use Rattle.std.proofs.lemmas.List.Folds.{list_all_at}
 use Rattle.std.proofs.lemmas.Slice.Eq.{bytes_eq-Decides}
-use Rattle.strand_image.specs.Symbols.{AreSymbols, words_in, region_number, symbol_cmp, may_precede, keeps_rules, rules_kept}
-use Rattle.strand_image.specs.Checking.{is_placed, ArePlaced, AreDifferent, name_at, names_of}
-use Rattle.strand_image.specs.declared.checking.Sizes.{Sizes}
+use Rattle.strand_image.specs.Symbols.{AreSymbols, words_in, region_number, symbol_cmp, may_precede, keeps_rules, count_before_fault}
+use Rattle.strand_image.specs.Checking.{stands_in_turn, StandInTurn, AreDifferent, name_at, names_of}
+use Rattle.strand_image.specs.declared.checking.SectionSizes.{SectionSizes}
 use Rattle.strand_image.specs.declared.symbol.Region.TheVariants.{Code}
 use Rattle.strand_image.specs.declared.symbol.Symbol.{Symbol}
 
@@ -26,9 +26,9 @@ pub nobody : Symbol
 nobody = record { region = Code; place = 0; name = [] }
 
 -- where the first symbol that breaks a rule stands
-pub stop_is : (sizes : Sizes) (before ss : List Symbol) (r : ℕ) (d : Symbol) → r ≤ length ss
+pub stop_is : (sizes : SectionSizes) (before ss : List Symbol) (r : ℕ) (d : Symbol) → r ≤ length ss
     → ((k : ℕ) → k < r → keeps_rules sizes (before ++ take k ss) (get_or ss k d) ≡ true)
-    → (r < length ss → keeps_rules sizes (before ++ take r ss) (get_or ss r d) ≡ false) → rules_kept sizes before ss ≡ length before + r
+    → (r < length ss → keeps_rules sizes (before ++ take r ss) (get_or ss r d) ≡ false) → count_before_fault sizes before ss ≡ length before + r
 stop_is sizes before [] r d le kept stops = omega arith
 stop_is sizes before (s ∷ ss) zero d le kept stops =
     let fails : keeps_rules sizes before s ≡ false = rw (append-nil before) at (stops (omega arith)) in
@@ -42,7 +42,7 @@ stop_is sizes before (s ∷ ss) (suc r) d le kept stops =
     long before s r = omega (arith, length-append before (s ∷ []))
 
 -- the rules of the first symbols
-pub record Keep (sizes : Sizes) (ss : List Symbol) (n : ℕ) : Type 0 where
+pub record Keep (sizes : SectionSizes) (ss : List Symbol) (n : ℕ) : Type 0 where
   pub places : (k : ℕ) (d : Symbol) → k < n → (get_or ss k d).place ≤ words_in sizes (get_or ss k d).region
   pub ascend : (i j : ℕ) (d : Symbol) → i < j → j < n → symbol_cmp (get_or ss i d) (get_or ss j d) ≡ Less
   pub differ : (i j : ℕ) (d : Symbol) → i < j → j < n → bytes_eq (get_or ss i d).name (get_or ss j d).name ≡ false
@@ -51,7 +51,7 @@ all_pass : {X : Type 0} (p : X → Bool) (xs : List X) (d : X) → ((i : ℕ) �
 all_pass p [] d h = refl
 all_pass p (x ∷ xs) d h = let first = h 0 (omega arith) in let more = all_pass p xs d (λ i lt. h (suc i) (omega arith)) in rw (first, more) refl
 
-pub keeps : (sizes : Sizes) (ss : List Symbol) (n k : ℕ) (d : Symbol) → Keep sizes ss n → n ≤ length ss → k < n → keeps_rules sizes (take k ss) (get_or ss k d) ≡ true
+pub keeps : (sizes : SectionSizes) (ss : List Symbol) (n k : ℕ) (d : Symbol) → Keep sizes ss n → n ≤ length ss → k < n → keeps_rules sizes (take k ss) (get_or ss k d) ≡ true
 keeps sizes ss n k d h le lt =
     let place = h.places k d lt in
     let stands : nat_le (get_or ss k d).place (words_in sizes (get_or ss k d).region) ≡ true = grind (arith, nat_tests) in
@@ -61,14 +61,14 @@ keeps sizes ss n k d h le lt =
     rw (stands, behind) refl
 
 -- a symbol that breaks one
-breaks_at : (sizes : Sizes) (before : List Symbol) (s : Symbol) (i : ℕ) (d : Symbol) → i < length before → may_precede (get_or before i d) s ≡ false → keeps_rules sizes before s ≡ false
+breaks_at : (sizes : SectionSizes) (before : List Symbol) (s : Symbol) (i : ℕ) (d : Symbol) → i < length before → may_precede (get_or before i d) s ≡ false → keeps_rules sizes before s ≡ false
 breaks_at sizes before s i d lt fails = rw (list_all_at (λ b. may_precede b s) before i d lt fails) (and_false (nat_le s.place (words_in sizes s.region)))
   where
     and_false : (b : Bool) → (b && false) ≡ false
     and_false true = refl
     and_false false = refl
 
-no_place : (sizes : Sizes) (before : List Symbol) (s : Symbol) → nat_le s.place (words_in sizes s.region) ≡ false → keeps_rules sizes before s ≡ false
+no_place : (sizes : SectionSizes) (before : List Symbol) (s : Symbol) → nat_le s.place (words_in sizes s.region) ≡ false → keeps_rules sizes before s ≡ false
 no_place sizes before s fails = rw fails refl
 
 same_name : (a b : Symbol) → a.name ≡ b.name → may_precede a b ≡ false
@@ -104,14 +104,14 @@ not_true false n = refl
 behind_first : (k : ℕ) (b : Bool) → ((suc k == 0) || b) ≡ b
 behind_first k b = let e : (suc k == 0) ≡ false = grind (arith, nat_tests) in rw e refl
 
-adjacent : (sizes : Sizes) (ss : List Symbol) (k : ℕ) (d : Symbol) → is_placed sizes ss (suc k) d ≡ true → symbol_cmp (get_or ss k d) (get_or ss (suc k) d) ≡ Less
+adjacent : (sizes : SectionSizes) (ss : List Symbol) (k : ℕ) (d : Symbol) → stands_in_turn sizes ss (suc k) d ≡ true → symbol_cmp (get_or ss k d) (get_or ss (suc k) d) ≡ Less
 adjacent sizes ss k d e =
     let s = get_or ss (suc k) d in
     let back : suc k - 1 ≡ k = omega arith in
     let last = (and_both (nat_le s.place (words_in sizes s.region)) ((suc k == 0) || is_lt (symbol_cmp (get_or ss (suc k - 1) d) s)) e).1 in
     less_is (symbol_cmp (get_or ss k d) s) (sym (ap (λ (i : ℕ). is_lt (symbol_cmp (get_or ss i d) s)) back) ∙ sym (behind_first k (is_lt (symbol_cmp (get_or ss (suc k - 1) d) s))) ∙ last)
 
-rising : (sizes : Sizes) (ss : List Symbol) (n : ℕ) → ArePlaced sizes ss n → (i j : ℕ) (d : Symbol) → i < j → j < n → symbol_cmp (get_or ss i d) (get_or ss j d) ≡ Less
+rising : (sizes : SectionSizes) (ss : List Symbol) (n : ℕ) → StandInTurn sizes ss n → (i j : ℕ) (d : Symbol) → i < j → j < n → symbol_cmp (get_or ss i d) (get_or ss j d) ≡ Less
 rising sizes ss n h i zero d lt below = absurd (omega arith)
 rising sizes ss n h i (suc j) d lt below =
     let next = adjacent sizes ss j d (h.placed (suc j) d below) in
@@ -128,7 +128,7 @@ front_name : (ss : List Symbol) (m k : ℕ) (d : Symbol) → m ≤ length ss →
 front_name ss m k d le lt = name_is (take m ss) k d (omega (arith, length-take m ss)) ∙ ap (λ (s : Symbol). s.name) (get_or-take m ss k d lt)
 
 -- the first symbols keep the rules, where they are placed and their names differ
-pub kept : (sizes : Sizes) (ss : List Symbol) (m r : ℕ) → ArePlaced sizes ss m → AreDifferent (names_of (take m ss)) r → r ≤ m → Keep sizes ss r
+pub kept : (sizes : SectionSizes) (ss : List Symbol) (m r : ℕ) → StandInTurn sizes ss m → AreDifferent (names_of (take m ss)) r → r ≤ m → Keep sizes ss r
 kept sizes ss m r h g le = record {
   places = λ k d lt.
       let s = get_or ss k d in
@@ -139,7 +139,7 @@ kept sizes ss m r h g le = record {
 }
 
 -- the next one breaks a rule
-stopped_in : (sizes : Sizes) (ss : List Symbol) (m r : ℕ) (d : Symbol) → m ≤ length ss → AreDifferent (names_of (take m ss)) r → r < m → keeps_rules sizes (take r ss) (get_or ss r d) ≡ false
+stopped_in : (sizes : SectionSizes) (ss : List Symbol) (m r : ℕ) (d : Symbol) → m ≤ length ss → AreDifferent (names_of (take m ss)) r → r < m → keeps_rules sizes (take r ss) (get_or ss r d) ≡ false
 stopped_in sizes ss m r d le g lt =
     let found = g.repeats (simp length-map (omega (arith, length-take m ss))) in
     let j = found.0 in
@@ -147,7 +147,7 @@ stopped_in sizes ss m r d le g lt =
     let same : (get_or ss j d).name ≡ (get_or ss r d).name = sym (front_name ss m j d le (omega arith)) ∙ found.2 ∙ front_name ss m r d le lt in
     breaks_at sizes (take r ss) (get_or ss r d) j d (omega (arith, length-take r ss)) (same_name (get_or (take r ss) j d) (get_or ss r d) (ap (λ (s : Symbol). s.name) (get_or-take r ss j d here) ∙ same))
 
-stopped_past : (sizes : Sizes) (ss : List Symbol) (m : ℕ) (d : Symbol) → m < length ss → is_placed sizes ss m d ≡ false → keeps_rules sizes (take m ss) (get_or ss m d) ≡ false
+stopped_past : (sizes : SectionSizes) (ss : List Symbol) (m : ℕ) (d : Symbol) → m < length ss → stands_in_turn sizes ss m d ≡ false → keeps_rules sizes (take m ss) (get_or ss m d) ≡ false
 stopped_past sizes ss zero d lt e =
     let s = get_or ss 0 d in
     elim (and_either (nat_le s.place (words_in sizes s.region)) ((0 == 0) || is_lt (symbol_cmp (get_or ss (0 - 1) d) s)) e) [
@@ -166,7 +166,7 @@ stopped_past sizes ss (suc k) d lt e =
           breaks_at sizes (take (suc k) ss) s k d (omega (arith, length-take (suc k) ss)) (rw (get_or-take (suc k) ss k d here) (not_less (get_or ss k d) s not_behind))
     ]
 
-pub first_broken : (sizes : Sizes) (ss : List Symbol) (m r : ℕ) → ArePlaced sizes ss m → AreDifferent (names_of (take m ss)) r → r ≡ rules_kept sizes [] ss
+pub first_broken : (sizes : SectionSizes) (ss : List Symbol) (m r : ℕ) → StandInTurn sizes ss m → AreDifferent (names_of (take m ss)) r → r ≡ count_before_fault sizes [] ss
 first_broken sizes ss m r h g =
     let bound = h.bound in
     let within = g.bound in
@@ -177,7 +177,7 @@ first_broken sizes ss m r h g =
       | inr after ↦ let same : m ≡ r = omega arith in rw same at (stopped_past sizes ss m nobody (omega arith) (h.stops nobody (omega arith)))
     ]))
 
-pub all_stand : (sizes : Sizes) (ss : List Symbol) (m r : ℕ) → ArePlaced sizes ss m → AreDifferent (names_of (take m ss)) r → length ss ≤ r → AreSymbols sizes ss
+pub all_stand : (sizes : SectionSizes) (ss : List Symbol) (m r : ℕ) → StandInTurn sizes ss m → AreDifferent (names_of (take m ss)) r → length ss ≤ r → AreSymbols sizes ss
 all_stand sizes ss m r h g le =
     let within = g.bound in
     let front : r ≤ m = let short : r ≤ min m (length ss) = simp (length-map, length-take) at within in omega arith in
@@ -190,7 +190,7 @@ all_stand sizes ss m r h g le =
     }
 
 -- symbols that keep all rules
-pub none_broken : (sizes : Sizes) (ss : List Symbol) → AreSymbols sizes ss → rules_kept sizes [] ss ≡ length ss
+pub none_broken : (sizes : SectionSizes) (ss : List Symbol) → AreSymbols sizes ss → count_before_fault sizes [] ss ≡ length ss
 none_broken sizes ss h =
     let all : Keep sizes ss (length ss) = record { places = h.places; ascend = h.ascend; differ = h.differ } in
     stop_is sizes [] ss (length ss) nobody (omega arith) (λ k lt. keeps sizes ss (length ss) k nobody all (omega arith) lt) (λ lt. absurd (omega arith)) ∙ zero-add (length ss)

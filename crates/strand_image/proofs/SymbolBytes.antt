@@ -10,12 +10,12 @@ use Rattle.strand_base.specs.Name.{is_label, is_name}
 use Rattle.strand_base.specs.LittleEndian.{u32_of, bytes_of_u32}
 use Rattle.strand_base.proofs.AppendsFront.{flat_more, flat_split, flat_all}
 use Rattle.strand_base.proofs.LittleEndian.{AreBytes, bytes_in_drop, u32_spells}
-use Rattle.strand_image.specs.Symbols.{region_number, region_of, named_symbol, symbol_of, onto_spelt, spelt_symbols, is_whole, bytes_of_symbol, bytes_of_symbols}
+use Rattle.strand_image.specs.Symbols.{region_number, region_with_number, named_symbol, symbol_of, onto_spelt, spelt_symbols, is_whole, bytes_of_symbol, bytes_of_symbols}
 use Rattle.strand_image.specs.declared.symbol.Region.{Region}
 use Rattle.strand_image.specs.declared.symbol.Region.TheVariants.{Code, Volatile, Persistent}
 use Rattle.strand_image.specs.declared.symbol.Symbol.{Symbol}
 
-region_again : (r : Region) → region_of (region_number r) ≡ Some r
+region_again : (r : Region) → region_with_number (region_number r) ≡ Some r
 region_again Code = refl
 region_again Volatile = refl
 region_again Persistent = refl
@@ -45,7 +45,7 @@ symbols_again (s ∷ ss) small labels =
     rw (first, more) refl
 
 -- the bytes of a symbol that was spelt
-region_spelt : (b : ℕ) (r : Region) → region_of b ≡ Some r → region_number r ≡ b
+region_spelt : (b : ℕ) (r : Region) → region_with_number b ≡ Some r → region_number r ≡ b
 region_spelt b r e = by_tests (b == 0) (b == 1) (b == 2) (λ t. grind (arith, nat_tests)) (λ t. grind (arith, nat_tests)) (λ t. grind (arith, nat_tests)) e
   where
     by_tests : (x y z : Bool) → (x ≡ true → b ≡ 0) → (y ≡ true → b ≡ 1) → (z ≡ true → b ≡ 2) → cond x (Some Code) (cond y (Some Volatile) (cond z (Some Persistent) None)) ≡ Some r → region_number r ≡ b
@@ -56,7 +56,7 @@ region_spelt b r e = by_tests (b == 0) (b == 1) (b == 2) (λ t. grind (arith, na
 
 pub record IsSymbolAt (bytes : List ℕ) (s : Symbol) (rest : List ℕ) : Type 0 where
   pub long : 6 + slice_index bytes 5 ≤ length bytes
-  pub region : region_of (slice_index bytes 0) ≡ Some s.region
+  pub region : region_with_number (slice_index bytes 0) ≡ Some s.region
   pub place : u32_of (drop 1 bytes) ≡ s.place
   pub name : take (slice_index bytes 5) (drop 6 bytes) ≡ s.name
   pub label : is_label s.name ≡ true
@@ -78,10 +78,10 @@ told_region None place name left s rest e = absurd cc
 told_region (Some r) place name left s rest e = let t = told_name r place name left _ s rest refl e in (ap (λ (x : Region). Some x) t.0, t.1, t.2, t.3, t.4)
 
 told : (bytes : List ℕ) (b : Bool) (s : Symbol) (rest : List ℕ) → nat_lt (length bytes) (6 + slice_index bytes 5) ≡ b
-    → cond b None (named_symbol (region_of (slice_index bytes 0)) (u32_of (drop 1 bytes)) (take (slice_index bytes 5) (drop 6 bytes)) (drop (6 + slice_index bytes 5) bytes)) ≡ Some (s, rest) → IsSymbolAt bytes s rest
+    → cond b None (named_symbol (region_with_number (slice_index bytes 0)) (u32_of (drop 1 bytes)) (take (slice_index bytes 5) (drop 6 bytes)) (drop (6 + slice_index bytes 5) bytes)) ≡ Some (s, rest) → IsSymbolAt bytes s rest
 told bytes true s rest f e = absurd cc
 told bytes false s rest f e =
-    let t = told_region (region_of (slice_index bytes 0)) (u32_of (drop 1 bytes)) (take (slice_index bytes 5) (drop 6 bytes)) (drop (6 + slice_index bytes 5) bytes) s rest e in
+    let t = told_region (region_with_number (slice_index bytes 0)) (u32_of (drop 1 bytes)) (take (slice_index bytes 5) (drop 6 bytes)) (drop (6 + slice_index bytes 5) bytes) s rest e in
     record { long = grind (arith, nat_tests); region = t.0; place = t.1; name = t.2; label = t.3; behind = t.4 }
 
 pub is_symbol_at : (bytes : List ℕ) (s : Symbol) (rest : List ℕ) → symbol_of bytes ≡ Some (s, rest) → IsSymbolAt bytes s rest

@@ -1,6 +1,9 @@
--- Serves the clauses of read_parts and spelling of read_image: what is within the limits of version 1 is within those of version 2.
-use Rattle.std.proofs.Common.{ℕ, ◌≤◌, arith}
-use Rattle.strand_image.specs.Limits.{IsWithinLimits}
+-- Serves the clauses of read_parts and read_image, and of the assembler: what is within the limits of version 1 is within those of version 2, and passes the test of these.
+use Rattle.std.proofs.Common.{◌≡◌, ℕ, ◌≤◌, true, refl, arith}
+use Rattle.std.specs.Prelude.{nat_le}
+use Rattle.std.proofs.lemmas.Bool.Decides.{nat_tests}
+use Rattle.strand_image.specs.Limits.{IsWithin, IsWithinLimits, is_within, least, most}
+use Rattle.strand_image.specs.declared.quantity.Quantity.{Quantity}
 use Rattle.strand_image.specs.declared.version.Version.{Version}
 use Rattle.strand_image.specs.declared.version.Version.TheVariants.{First, Second}
 
@@ -19,3 +22,9 @@ limits_now Second cores code volatile persistent symbols fewer h le = record {
   persistent_within = h.persistent_within;
   symbols_within = let w = h.symbols_within in (omega arith, omega arith);
 }
+
+pub within_passes : (what : Quantity) (n : ℕ) → IsWithin what n → is_within what n ≡ true
+within_passes what n h =
+    let low : nat_le (least what) n ≡ true = grind (arith, nat_tests, h.0) in
+    let high : nat_le n (most Second what) ≡ true = grind (arith, nat_tests, h.1) in
+    rw (low, high) refl

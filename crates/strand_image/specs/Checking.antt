@@ -7,19 +7,19 @@ use Rattle.std.specs.Ordering.{nat_cmp, ordering_then, is_lt}
 use Rattle.std.specs.Cmp.Lexicographic.{slice_cmp}
 use Rattle.strand_base.specs.Name.{is_label}
 use Rattle.strand_image.specs.Symbols.{words_in, symbol_cmp}
-use Rattle.strand_image.specs.declared.checking.Sizes.{Sizes}
+use Rattle.strand_image.specs.declared.checking.SectionSizes.{SectionSizes}
 use Rattle.strand_image.specs.declared.symbol.Symbol.{Symbol}
 
 -- A symbol stands in its section, and behind the one before it. `d` stands for what is past the list's end.
-abbrev pub is_placed : Sizes → List Symbol → ℕ → Symbol → Bool
-is_placed sizes ss k d = let s = slice_index_or ss k d in nat_le s.place (words_in sizes s.region) && ((k == 0) || is_lt (symbol_cmp (slice_index_or ss (k - 1) d) s))
+abbrev pub stands_in_turn : SectionSizes → List Symbol → ℕ → Symbol → Bool
+stands_in_turn sizes ss k d = let s = slice_index_or ss k d in nat_le s.place (words_in sizes s.region) && ((k == 0) || is_lt (symbol_cmp (slice_index_or ss (k - 1) d) s))
 
 -- Each of the first symbols is placed and has a label.
-pub record ArePlaced (sizes : Sizes) (ss : List Symbol) (n : ℕ) : Type 0 where
+pub record StandInTurn (sizes : SectionSizes) (ss : List Symbol) (n : ℕ) : Type 0 where
   pub bound : n ≤ length ss
-  pub placed : (k : ℕ) (d : Symbol) → k < n → is_placed sizes ss k d ≡ true
+  pub placed : (k : ℕ) (d : Symbol) → k < n → stands_in_turn sizes ss k d ≡ true
   pub labels : (k : ℕ) (d : Symbol) → k < n → IsTrue (is_label (slice_index_or ss k d).name)
-  pub stops : (d : Symbol) → n < length ss → is_placed sizes ss n d ≡ false
+  pub stops : (d : Symbol) → n < length ss → stands_in_turn sizes ss n d ≡ false
 
 abbrev pub names_of : List Symbol → List (List ℕ)
 names_of ss = map (λ s. s.name) ss

@@ -4,8 +4,8 @@ use Rattle.std.specs.Str.{bytes_eq}
 use lib.Chars.{codes}
 use Rattle.strand_base.specs.LittleEndian.{u32_of, u32s, u64s, bytes_of_u32s, bytes_of_u64s}
 use Rattle.strand_image.specs.ImageSeen.{ImageSeen, image_seen}
-use Rattle.strand_image.specs.Symbols.{sizes_of, rules_kept, spelt_symbols, is_whole, bytes_of_symbols}
-use Rattle.strand_image.specs.Limits.{is_within_by}
+use Rattle.strand_image.specs.Symbols.{sizes_of, count_before_fault, spelt_symbols, is_whole, bytes_of_symbols}
+use Rattle.strand_image.specs.Limits.{is_within_by, FitsFirst}
 use Rattle.strand_image.specs.declared.quantity.Quantity.{Quantity}
 use Rattle.strand_image.specs.declared.quantity.Quantity.TheVariants.{Cores, Code, Volatile, Persistent, Symbols, Names}
 use Rattle.strand_image.specs.declared.fault.ImageFault.{ImageFault}
@@ -87,7 +87,7 @@ entries_exist p = unless_stray p (position (λ entry. nat_le (length p.code) ent
 
 -- the first symbol that breaks a rule
 unfoldable pub symbols_stand : ImageSeen → Result (Unit {0}) ImageFault
-symbols_stand p = let kept = rules_kept (sizes_of p) [] p.symbols in if nat_lt kept (length p.symbols) then Err (SymbolAt kept) else Ok tt
+symbols_stand p = let kept = count_before_fault (sizes_of p) [] p.symbols in if nat_lt kept (length p.symbols) then Err (SymbolAt kept) else Ok tt
 
 -- the image of lists within their limits
 unfoldable pub kept_image : ImageSeen → Result ImageSeen ImageFault
@@ -129,14 +129,14 @@ image_of bytes = do
   a ← has_length (file_length h) (length bytes)
   parts_image h bytes
 
--- the limits of an image
-abbrev pub image_limits : ℕ → ℕ → ℕ → ℕ → ℕ → Result (Unit {0}) ImageFault
-image_limits cores code volatile persistent symbols = within_limits Second cores code volatile persistent symbols
+-- the limits of an image, which are those of version 2
+abbrev pub within_image_limits : ℕ → ℕ → ℕ → ℕ → ℕ → Result (Unit {0}) ImageFault
+within_image_limits cores code volatile persistent symbols = within_limits Second cores code volatile persistent symbols
 
 -- the image of five lists
 unfoldable pub checked_image : ImageSeen → Result ImageSeen ImageFault
 checked_image p = do
-  a ← image_limits (length p.entries) (length p.code) (length p.volatile) (length p.persistent) (length p.symbols)
+  a ← within_image_limits (length p.entries) (length p.code) (length p.volatile) (length p.persistent) (length p.symbols)
   kept_image p
 
 -- What a function returned is what was read, unless memory ran out.
@@ -162,6 +162,6 @@ bytes_in version p = header_bytes version p ++ list_bytes p
 abbrev pub image_bytes : ImageSeen → List ℕ
 image_bytes p = bytes_in Second p
 
--- bytes that spell an image in one version or the other
+-- bytes that spell an image, in version 1 where it can say the image, or in version 2
 abbrev pub Spells : List ℕ → ImageSeen → Type 0
-Spells bytes p = (bytes ≡ bytes_in First p) ⊎ (bytes ≡ bytes_in Second p)
+Spells bytes p = (FitsFirst p × (bytes ≡ bytes_in First p)) ⊎ (bytes ≡ bytes_in Second p)

@@ -1,5 +1,5 @@
 -- How much an image and a file of each version may have, and what holds of every image.
-use Rattle.std.specs.Prelude.{ℕ, ◌<◌, ◌≤◌, ◌^◌, ◌&&◌, Bool, nat_le, List, length, slice_index}
+use Rattle.std.specs.Prelude.{◌≡◌, ℕ, ◌<◌, ◌≤◌, ◌^◌, ◌&&◌, Bool, nat_le, List, [], length, slice_index}
 use Rattle.strand_base.specs.declared.limits.TheConstants.{MOST_CORES, MOST_CODE, MOST_DATA, MOST_SYMBOLS, MOST_NAMES, FIRST_MOST_CORES, FIRST_MOST_CODE, FIRST_MOST_DATA}
 use Rattle.strand_base.specs.LittleEndian.{AreBelow}
 use Rattle.strand_image.specs.ImageSeen.{ImageSeen}
@@ -39,9 +39,6 @@ abbrev pub IsWithinBy : Version → Quantity → ℕ → Type 0
 IsWithinBy version what n = (least what ≤ n) × (n ≤ most version what)
 
 -- An image has no more than a file of version 2.
-abbrev pub image_most : Quantity → ℕ
-image_most what = most Second what
-
 abbrev pub is_within : Quantity → ℕ → Bool
 is_within what n = is_within_by Second what n
 
@@ -54,6 +51,11 @@ pub record IsWithinLimits (version : Version) (cores code volatile persistent sy
   pub volatile_within : IsWithinBy version Volatile volatile
   pub persistent_within : IsWithinBy version Persistent persistent
   pub symbols_within : IsWithinBy version Symbols symbols
+
+-- an image that a file of version 1 can say
+pub record FitsFirst (p : ImageSeen) : Type 0 where
+  pub plain : p.symbols ≡ []
+  pub limits : IsWithinLimits First (length p.entries) (length p.code) (length p.volatile) (length p.persistent) 0
 
 -- each entry is the number of a code word
 abbrev pub AreEntries : List ℕ → ℕ → Type 0

@@ -12,15 +12,15 @@ use Rattle.strand_image.specs.ImageSeen.{ImageSeen}
 use Rattle.strand_image.specs.declared.symbol.Region.{Region}
 use Rattle.strand_image.specs.declared.symbol.Region.TheVariants.{Code, Volatile, Persistent}
 use Rattle.strand_image.specs.declared.symbol.Symbol.{Symbol}
-use Rattle.strand_image.specs.declared.checking.Sizes.{Sizes}
+use Rattle.strand_image.specs.declared.checking.SectionSizes.{SectionSizes}
 
 -- how many words a section has
-abbrev pub words_in : Sizes → Region → ℕ
+abbrev pub words_in : SectionSizes → Region → ℕ
 words_in sizes Code = sizes.code
 words_in sizes Volatile = sizes.volatile
 words_in sizes Persistent = sizes.persistent
 
-abbrev pub sizes_of : ImageSeen → Sizes
+abbrev pub sizes_of : ImageSeen → SectionSizes
 sizes_of p = record { code = length p.code; volatile = length p.volatile; persistent = length p.persistent }
 
 -- the number of a section
@@ -47,16 +47,16 @@ abbrev pub may_precede : Symbol → Symbol → Bool
 may_precede a b = is_lt (symbol_cmp a b) && not (bytes_eq a.name b.name)
 
 -- the rules on a symbol behind others
-abbrev pub keeps_rules : Sizes → List Symbol → Symbol → Bool
+abbrev pub keeps_rules : SectionSizes → List Symbol → Symbol → Bool
 keeps_rules sizes before s = nat_le s.place (words_in sizes s.region) && list_all (λ b. may_precede b s) before
 
 -- how many symbols stand before the first that breaks a rule
-abbrev pub rules_kept : Sizes → List Symbol → List Symbol → ℕ
-rules_kept sizes before [] = length before
-rules_kept sizes before (s ∷ ss) = if keeps_rules sizes before s then rules_kept sizes (before ++ s ∷ []) ss else length before
+abbrev pub count_before_fault : SectionSizes → List Symbol → List Symbol → ℕ
+count_before_fault sizes before [] = length before
+count_before_fault sizes before (s ∷ ss) = if keeps_rules sizes before s then count_before_fault sizes (before ++ s ∷ []) ss else length before
 
 -- Each symbol has a label, and stands in its section or at its end. They ascend, and no two have one name.
-pub record AreSymbols (sizes : Sizes) (ss : List Symbol) : Type 0 where
+pub record AreSymbols (sizes : SectionSizes) (ss : List Symbol) : Type 0 where
   pub labels : (k : ℕ) (d : Symbol) → k < length ss → IsTrue (is_label (slice_index_or ss k d).name)
   pub places : (k : ℕ) (d : Symbol) → k < length ss → (slice_index_or ss k d).place ≤ words_in sizes (slice_index_or ss k d).region
   pub ascend : AllPairs (λ a b. symbol_cmp a b ≡ Less) ss
@@ -70,8 +70,8 @@ unfoldable pub bytes_of_symbols : List Symbol → List ℕ
 bytes_of_symbols ss = flat_map bytes_of_symbol ss
 
 -- the section with a number
-abbrev pub region_of : ℕ → Option Region
-region_of b = if b == 0 then Some Code else (if b == 1 then Some Volatile else (if b == 2 then Some Persistent else None))
+abbrev pub region_with_number : ℕ → Option Region
+region_with_number b = if b == 0 then Some Code else (if b == 1 then Some Volatile else (if b == 2 then Some Persistent else None))
 
 -- the symbol that bytes begin with, and the bytes behind it
 abbrev pub named_symbol : Option Region → ℕ → List ℕ → List ℕ → Option (Symbol × List ℕ)
@@ -81,7 +81,7 @@ named_symbol (Some region) place name rest = if is_label name then Some (record 
 unfoldable pub symbol_of : List ℕ → Option (Symbol × List ℕ)
 symbol_of bytes =
     let size = slice_index bytes 5 in
-    if nat_lt (length bytes) (6 + size) then None else named_symbol (region_of (slice_index bytes 0)) (u32_of (drop 1 bytes)) (take size (drop 6 bytes)) (drop (6 + size) bytes)
+    if nat_lt (length bytes) (6 + size) then None else named_symbol (region_with_number (slice_index bytes 0)) (u32_of (drop 1 bytes)) (take size (drop 6 bytes)) (drop (6 + size) bytes)
 
 -- the symbols that bytes begin with, at most so many, and the bytes behind them
 abbrev pub onto_spelt : Option (Symbol × List ℕ) → List ℕ → (List ℕ → List Symbol × List ℕ) → List Symbol × List ℕ

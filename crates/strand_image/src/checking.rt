@@ -4,8 +4,8 @@ ghost use Rattle.std.specs.List.{AllPairs};
 ghost use Rattle.std.specs.Str.{bytes_eq};
 ghost use Rattle.strand_base.specs.declared.limits.TheConstants.{MOST_SYMBOLS};
 ghost use Rattle.strand_base.specs.Name.{is_label};
-ghost use Rattle.strand_image.specs.Symbols.{AreSymbols, in_order, region_number, rules_kept, symbol_cmp, words_in};
-ghost use Rattle.strand_image.specs.Checking.{AreDifferent, ArePlaced, IsByName, by_name, is_placed, lowered, name_at, names_of};
+ghost use Rattle.strand_image.specs.Symbols.{AreSymbols, in_order, region_number, count_before_fault, symbol_cmp, words_in};
+ghost use Rattle.strand_image.specs.Checking.{AreDifferent, StandInTurn, IsByName, by_name, stands_in_turn, lowered, name_at, names_of};
 ghost use Rattle.strand_image.specs.declared.symbol.Symbol.{Symbol};
 
 use crate::symbol::{Region, Symbol};
@@ -14,13 +14,13 @@ use strand_base::MOST_SYMBOLS;
 
 /// How many words each section has.
 #[derive(Clone, Copy)]
-pub(crate) struct Sizes {
+pub(crate) struct SectionSizes {
     pub code: u64,
     pub volatile: u64,
     pub persistent: u64,
 }
 
-fn words_in(sizes: Sizes, region: Region) -> u64
+fn words_in(sizes: SectionSizes, region: Region) -> u64
     ensures { result ≡ words_in sizes region }
 {
     match region {
@@ -60,9 +60,9 @@ pub fn put_in_order(symbols: &mut [Symbol])
 }
 
 /// Whether a symbol stands in its section, and behind the one before it.
-fn is_placed(symbols: &[Symbol], k: usize, sizes: Sizes) -> bool
+fn stands_in_turn(symbols: &[Symbol], k: usize, sizes: SectionSizes) -> bool
     requires { k < length symbols.now }
-    ensures gives { (d : Symbol) → result ≡ is_placed sizes symbols.now k d }
+    ensures gives { (d : Symbol) → result ≡ stands_in_turn sizes symbols.now k d }
     ensures label { (d : Symbol) → IsTrue (is_label (slice_index_or symbols.now k d).name) }
 {
     let symbol = &symbols[k];
@@ -77,11 +77,11 @@ fn is_placed(symbols: &[Symbol], k: usize, sizes: Sizes) -> bool
 }
 
 /// How many symbols stand before the first that is out of its section or not behind the one before it.
-fn first_misplaced(symbols: &[Symbol], sizes: Sizes) -> usize
-    ensures { ArePlaced sizes symbols.now result }
+fn first_misplaced(symbols: &[Symbol], sizes: SectionSizes) -> usize
+    ensures { StandInTurn sizes symbols.now result }
 {
     for k in 0..symbols.len() {
-        if !is_placed(symbols, k, sizes) {
+        if !stands_in_turn(symbols, k, sizes) {
             return k;
         }
     }
@@ -166,9 +166,9 @@ fn first_repeated(symbols: &[Symbol]) -> usize
 }
 
 /// How many symbols stand before the first that breaks a rule.
-pub(crate) fn rules_kept(symbols: &[Symbol], sizes: Sizes) -> usize
+pub(crate) fn count_before_fault(symbols: &[Symbol], sizes: SectionSizes) -> usize
     requires { length symbols.now ≤ MOST_SYMBOLS }
-    ensures gives { result ≡ rules_kept sizes [] symbols.now }
+    ensures gives { result ≡ count_before_fault sizes [] symbols.now }
     ensures stand { length symbols.now ≤ result → AreSymbols sizes symbols.now }
 {
     let placed = first_misplaced(symbols, sizes);

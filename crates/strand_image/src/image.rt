@@ -6,7 +6,7 @@ ghost use Rattle.strand_image.specs.Image.{limit_check, within_limits, entries_e
 ghost use Rattle.strand_image.specs.Symbols.{sizes_of};
 ghost use Rattle.strand_image.specs.declared.version.Version.TheVariants.{Second};
 
-use crate::checking::{Sizes, rules_kept};
+use crate::checking::{SectionSizes, count_before_fault};
 use crate::fault::ImageFault;
 use crate::quantity::Quantity;
 use crate::symbol::Symbol;
@@ -98,12 +98,12 @@ pub(crate) fn kept_image(
             value: entries[core],
         });
     }
-    let sizes = Sizes {
+    let sizes = SectionSizes {
         code: code.len() as u64,
         volatile: volatile.len() as u64,
         persistent: persistent.len() as u64,
     };
-    let kept = rules_kept(&symbols, sizes);
+    let kept = count_before_fault(&symbols, sizes);
     if kept < symbols.len() {
         return Err(ImageFault::Symbol { index: kept as u32 });
     }

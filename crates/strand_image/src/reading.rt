@@ -1,10 +1,10 @@
-ghost use Rattle.std.specs.Prelude.{◌≡◌, ◌≤◌, ◌++◌, [], ◌∷◌, length, IfOk, IfSome, IsTrue, OnOk};
+ghost use Rattle.std.specs.Prelude.{◌≡◌, ◌≤◌, ◌++◌, [], ◌∷◌, length, IfOk, IfSome, IsTrue, Ok, OnOk};
 ghost use Rattle.std.specs.Option.{option_map};
 ghost use Rattle.strand_base.specs.Name.{is_label};
-ghost use Rattle.strand_image.specs.ImageSeen.{image_seen};
-ghost use Rattle.strand_image.specs.Limits.{IsWithinLimits, IsWithinBy};
+ghost use Rattle.strand_image.specs.ImageSeen.{ImageSeen, image_seen};
+ghost use Rattle.strand_image.specs.Limits.{IsImage, IsWithinLimits, IsWithinBy};
 ghost use Rattle.strand_image.specs.declared.version.Version.TheVariants.{Second};
-ghost use Rattle.strand_image.specs.Symbols.{is_whole, region_of, spelt_symbols, symbol_of};
+ghost use Rattle.strand_image.specs.Symbols.{is_whole, region_with_number, spelt_symbols, symbol_of};
 ghost use Rattle.strand_image.specs.Reading.{seen};
 ghost use Rattle.strand_image.specs.Image.{header_at, header_of, header_within, file_length, has_bytes, has_length, head_length, named_version, image_of, parts_image, version_of, whole_image, GivesImage, Spells};
 ghost use Rattle.strand_image.specs.declared.quantity.Quantity.TheVariants.{Names};
@@ -133,8 +133,8 @@ fn check_length(header: Header, have: u64) -> Result<(), ImageFault>
     }
 }
 
-fn region_of(byte: u8) -> Option<Region>
-    ensures { result ≡ region_of byte }
+fn region_with_number(byte: u8) -> Option<Region>
+    ensures { result ≡ region_with_number byte }
 {
     match byte {
         0 => Some(Region::Code),
@@ -155,7 +155,7 @@ struct Spelt<'a> {
 
 /// The symbol that bytes begin with, and the bytes behind it.
 #[tactic(auto, unfolding(crate::specs::Symbols::symbol_of))]
-fn symbol_at(bytes: &[u8]) -> Option<Spelt<'_>>
+fn symbol_of(bytes: &[u8]) -> Option<Spelt<'_>>
     ensures gives { option_map (λ s. (seen s, s.rest.now)) result ≡ symbol_of bytes.now }
     ensures label { IfSome result (λ s. IsTrue (is_label s.name.now)) }
 {
@@ -166,7 +166,7 @@ fn symbol_at(bytes: &[u8]) -> Option<Spelt<'_>>
     if bytes.len() < 6 + size {
         return None;
     }
-    let region = region_of(bytes[0])?;
+    let region = region_with_number(bytes[0])?;
     let name = &bytes[6..6 + size];
     if !is_label(name) {
         return None;
@@ -209,7 +209,7 @@ fn read_symbols(
 {
     let mut rest = part;
     for _ in 0..count {
-        let Some(spelt) = symbol_at(rest) else {
+        let Some(spelt) = symbol_of(rest) else {
             return Ok(false);
         };
         put_symbol(alloc, &spelt, into)?;
@@ -278,11 +278,13 @@ fn read_parts(alloc: Global, bytes: &[u8], header: Header) -> Result<Image, Imag
 /// `Short` or `Long` where the file has another length than its numbers give; `Entry` for the first entry
 /// that is no code word's number; and `Symbol` for the first symbol that isn't wholly there, isn't of its form
 /// or breaks a rule, or for the number of symbols where bytes are left behind them. `OutOfMemory` may come in
-/// place of an image, of `Entry` or of `Symbol`.
+/// place of an image, of `Entry` or of `Symbol`. Each spelling of an image is read back to it, and what is read
+/// is spelt so: an image has one spelling in version 2, and one in version 1 exactly where that can say it.
 #[tactic(auto, unfolding(crate::specs::Image::image_of))]
 pub fn read_image(alloc: Global, bytes: &[u8]) -> Result<Image, ImageFault>
     ensures gives { GivesImage result (image_of bytes.now) }
     ensures spelling { IfOk result (λ image. Spells bytes.now image) }
+    ensures again { (image : ImageSeen) → IsImage image → Spells bytes.now image → GivesImage result (Ok image) }
 {
     let header = header_of(bytes)?;
     check_length(header, bytes.len() as u64)?;

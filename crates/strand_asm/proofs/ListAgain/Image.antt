@@ -1,6 +1,6 @@
 -- Serves clause again of list: the assembly of a listing is the image again.
 use Rattle.std.proofs.Common.{◌≡◌, ℕ, zero, suc, ◌+◌, ◌^◌, ◌<◌, ◌≤◌, true, false, List, [], ◌∷◌, ◌++◌, length, get_or, map, Result, Ok, Err, refl, sym, ap, ◌∙◌, arith}
-use Rattle.std.specs.Prelude.{◌==◌, nat_le, slice_index}
+use Rattle.std.specs.Prelude.{◌==◌, slice_index}
 use Rattle.std.proofs.lemmas.List.{length-map}
 use Rattle.std.specs.List.{AllByRecursion, list_all}
 use Rattle.std.specs.Result.{OnOk}
@@ -13,14 +13,14 @@ use Rattle.strand_base.specs.declared.limits.TheConstants.{MOST_DATA}
 use Rattle.strand_base.specs.Name.{is_label}
 use Rattle.strand_base.specs.Text.{lines_of}
 use Rattle.strand_image.specs.ImageSeen.{ImageSeen}
-use Rattle.strand_image.specs.Limits.{IsImage, IsWithin, is_within, least, image_most}
-use Rattle.strand_image.specs.declared.quantity.Quantity.{Quantity}
+use Rattle.strand_image.specs.Limits.{IsImage}
 use Rattle.strand_image.specs.declared.quantity.Quantity.TheVariants.{Cores, Code, Volatile, Persistent, Symbols}
 use Rattle.strand_image.specs.Symbols.{in_order}
 use Rattle.strand_image.specs.declared.symbol.Region.{Region}
 use Rattle.strand_image.specs.declared.symbol.Region.TheVariants as regions
 use Rattle.strand_image.specs.declared.symbol.Symbol.{Symbol}
 use Rattle.strand_image.proofs.Order.{order_stays}
+use Rattle.strand_image.proofs.Versions.{within_passes}
 use Rattle.strand_asm_lines.specs.declared.line.Section.TheVariants as sections
 use Rattle.strand_asm.specs.declared.layout.Layout.{Layout}
 use Rattle.strand_asm.specs.declared.addition.Addition.TheVariants as additions
@@ -179,13 +179,6 @@ draft_again p whole h all_code =
     let g = goes_all (drafted whole) (Is (dr sections.Code [] [] [] [])) (Is (end p)) (listing_lines p) (drafts p whole h all_code) 1 (dr sections.Code [] [] [] []) refl in
     rw (listing_is_read p h) (g.1.1 ∙ ap (λ (d : DraftSeen). Ok d) g.1.0)
 
--- the limits hold
-is_allowed : (what : Quantity) (n : ℕ) → IsWithin what n → is_within what n ≡ true
-is_allowed what n h =
-    let low : nat_le (least what) n ≡ true = grind (arith, nat_tests, h.0) in
-    let high : nat_le n (image_most what) ≡ true = grind (arith, nat_tests, h.1) in
-    rw (low, high) refl
-
 some_cores : (n : ℕ) → 1 ≤ n → cores_of_entries n ≡ n
 some_cores zero le = absurd (omega (arith, le))
 some_cores (suc n) le = let apart : (suc n == 0) ≡ false = grind (arith, nat_tests) in rw apart refl
@@ -201,11 +194,11 @@ limits_again p l h whole =
       ap (λ (m : Layout). m.persistent) whole.is,
       count,
       some_cores (length p.entries) h.limits.cores_within.0,
-      is_allowed Cores (length p.entries) h.limits.cores_within,
-      is_allowed Code (length p.code) h.limits.code_within,
-      is_allowed Volatile (length p.volatile) h.limits.volatile_within,
-      is_allowed Persistent (length p.persistent) h.limits.persistent_within,
-      is_allowed Symbols (length p.symbols) h.limits.symbols_within,
+      within_passes Cores (length p.entries) h.limits.cores_within,
+      within_passes Code (length p.code) h.limits.code_within,
+      within_passes Volatile (length p.volatile) h.limits.volatile_within,
+      within_passes Persistent (length p.persistent) h.limits.persistent_within,
+      within_passes Symbols (length p.symbols) h.limits.symbols_within,
     ) refl
 
 same_entries : (es : List ℕ) → 1 ≤ length es → entered es ≡ es

@@ -23,7 +23,7 @@ pub returns-clause-no_command : goal.returns-clause-no_command
 returns-clause-no_command g c = λ e. no_command_of _ _ _ _ _ e c.run_command.ensures
 
 pub returns-clause-no : goal.returns-clause-no
-returns-clause-no g c = clause.refutes_of _ _ (sound_of _ _) _ _ _ c.run_command.ensures
+returns-clause-no g c = clause.tells_no_of _ _ (sound_of _ _) _ _ _ c.run_command.ensures
 
 pub returns-clause-refused : goal.returns-clause-refused
 returns-clause-refused g c = clause.refused_of _ _ (sound_of _ _) _ _ _ c.run_command.ensures

@@ -9,7 +9,7 @@ below m n e = grind (arith, nat_tests)
 
 pub invariant_of-result : goal.invariant_of-result
 invariant_of-result c =
-    let stand = c.rules_kept-kept.ensures.stand (omega arith) in
+    let stand = c.count_before_fault-kept.ensures.stand (omega arith) in
     let bound = rw c.deref-2.ensures.value at (names_bound c.deref-2.result.now (λ k d lt. stand.labels k d lt)) in
     record {
       limits = c.requires;

@@ -1,5 +1,5 @@
 use Rattle.strand_image.proofs.Rules.{first_broken, all_stand}
-use Rattle.strand_image.proofs.checking.rules_kept.Goals as goal
+use Rattle.strand_image.proofs.checking.count_before_fault.Goals as goal
 
 pub returns : goal.returns
 returns c = record {
