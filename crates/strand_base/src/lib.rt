@@ -25,8 +25,6 @@ mod out_of_memory;
 mod putting;
 mod regions;
 mod sink;
-#[cfg(test)]
-mod tests;
 mod writing;
 
 pub use decimal::{NumberFault, print_decimal, read_decimal};

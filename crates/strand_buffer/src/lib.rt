@@ -11,6 +11,3 @@ mod stages;
 
 pub use buffers::StrandBuffers;
 pub use entry::{Entry, Slot, Stage};
-
-#[cfg(test)]
-mod tests;

@@ -19,6 +19,3 @@ pub use counts::Counts;
 pub use hierarchy::Hierarchy;
 pub use laws::cache_laws;
 pub use lines::LINE_BYTES;
-
-#[cfg(test)]
-mod tests;

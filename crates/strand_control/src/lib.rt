@@ -7,6 +7,3 @@ mod request;
 
 pub use controller::Controller;
 pub use request::{Request, WriteTurn};
-
-#[cfg(test)]
-mod tests;

@@ -13,6 +13,3 @@ pub use laws::{
     waits_cover_other_strands,
 };
 pub use trace::Trace;
-
-#[cfg(test)]
-mod tests;

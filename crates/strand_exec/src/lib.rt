@@ -24,8 +24,3 @@ pub use life::{Life, Trap};
 pub use planned::Plan;
 pub use planning::{asked, plan};
 pub use sizes::Sizes;
-
-#[cfg(test)]
-mod tests;
-#[cfg(test)]
-mod word_tests;

@@ -18,6 +18,3 @@ pub use listing::ends_of;
 pub use marking::persists_of;
 pub use offers::{Offered, asked, gather};
 pub use verdict::Verdict;
-
-#[cfg(test)]
-mod tests;

@@ -11,8 +11,6 @@ mod parts;
 mod ram_module;
 mod refusals;
 mod replacing;
-#[cfg(test)]
-mod tests;
 
 pub use accepted::Accepted;
 pub use bank::{MOST_MODULES, ModuleBank};

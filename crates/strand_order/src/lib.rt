@@ -15,6 +15,3 @@ pub use graph::{Graph, build};
 pub use laws::{
     edges_are_listed, paths_are_persist_order, paths_past_barriers_and_joins_are_direct,
 };
-
-#[cfg(test)]
-mod tests;

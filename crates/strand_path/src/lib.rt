@@ -15,6 +15,3 @@ pub use checking::check_path;
 pub use choosing::longest;
 pub use laws::chosen_chains_are_longest;
 pub use path::Path;
-
-#[cfg(test)]
-mod tests;

@@ -7,6 +7,3 @@ mod persist_queue;
 
 pub use item::Item;
 pub use persist_queue::PersistQueue;
-
-#[cfg(test)]
-mod tests;

@@ -12,6 +12,3 @@ pub use core_waits::CoreWaits;
 pub use count_vector::CountVector;
 pub use laws::{counts_tell_what_waits, waits_are_noted};
 pub use tags::Tags;
-
-#[cfg(test)]
-mod tests;
