@@ -1,5 +1,5 @@
 -- Serves check, by is_matched, and refute, by needed: a `match` line says what the judge looks up.
-use Rattle.std.proofs.Common.{◌≡◌, ℕ, suc, ◌<◌, ◌↔◌, true, List, arith}
+use Rattle.std.proofs.Common.{◌≡◌, ℕ, true, List, arith}
 use Rattle.strand_events.specs.declared.event.Event.{Event}
 use Rattle.strand_events.specs.Trace.{word_at}
 use Rattle.strand_events.specs.Order.{Set}
