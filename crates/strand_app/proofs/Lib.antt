@@ -3,6 +3,7 @@ pub mod OpensTo
 pub mod RunReads
 pub mod JudgeReads
 pub mod CheckReads
+pub mod FewEvents
 pub mod RunsOnBank
 pub mod Comes
 pub mod GenCommands

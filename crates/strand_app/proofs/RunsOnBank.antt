@@ -35,7 +35,7 @@ use Rattle.strand_app.specs.declared.commands.check.Claim.{Claim as CodeClaim}
 use Rattle.strand_app.specs.Checking.{TellsChecked, claim_of}
 use Rattle.strand_app.specs.Commands.Check.{PutsChecked}
 use Rattle.strand_refute.specs.Checked.{IsChecked, SaysAccepted}
-use Rattle.strand_app.specs.Commands.Refute.{Answers, PutsRefutation}
+use Rattle.strand_app.specs.Commands.Refute.{RefutesOrAllows, PutsRefutation}
 use Rattle.strand_app.specs.Judging.{TellsVerdict, question_of}
 use Rattle.strand_app.specs.Refuting.{TellsRefutation}
 use Rattle.strand_app.specs.Machine.{PutsRun}
@@ -126,7 +126,7 @@ module _ (u : Inputs) (before after : BankSeen) where
   refutation_on_bank q is r (Err e) runs tells = may_on_bank (Whole r) runs
   refutation_on_bank q is r (Ok made) runs tells =
       let same = subst (λ (x : Inputs). (view_of r).trace ≡ (visible_after x x.steps).trace) is (trace_is u before r runs.is.1 runs.is.2) in
-      puts_whole (PutsRefutation (question_of q)) r made runs (subst (λ (t : List Event). Answers q.setup.files.config.mode t (crash_of q.setup.files.image.persistent q.crash) made.status made.text.items) same tells)
+      puts_whole (PutsRefutation (question_of q)) r made runs (subst (λ (t : List Event). RefutesOrAllows q.setup.files.config.mode t (crash_of q.setup.files.image.persistent q.crash) made.status made.text.items) same tells)
 
   -- what the check says by the trace of a run that met no refusal
   pub checked_on_bank : (q : CodeClaim) → u ≡ inputs_of q.setup → (r : Run) (result : Result Made OutOfMemory) → RunsOnBank u before after (Whole r) → IfOk result (TellsChecked q r)

@@ -1,5 +1,6 @@
 -- What a check says of a certificate, and what a refutation is.
 use Rattle.std.specs.Prelude.{◌≡◌, ℕ, suc, ◌<◌, ◌≤◌, List, length}
+use Rattle.strand_base.specs.declared.limits.TheConstants.{MOST_STEPS}
 use Rattle.strand_inputs.specs.declared.mode.Mode.{Mode}
 use Rattle.strand_events.specs.declared.event.Event.{Event}
 use Rattle.strand_events.specs.Order.{Set}
@@ -7,6 +8,7 @@ use Rattle.strand_judge.specs.Judged.{Crash, IsJudged}
 use Rattle.strand_judge.specs.Verdicts.{IsLeastList}
 use Rattle.strand_refute.specs.CertificateSeen.{CertificateSeen}
 use Rattle.strand_refute.specs.Accepted.{IsAcceptedLine, IsAccepted}
+use Rattle.strand_refute.specs.Fits.{CertificateFits}
 use Rattle.strand_refute.specs.declared.checking.Checked.{Checked}
 use Rattle.strand_refute.specs.declared.checking.Checked.TheVariants.{Accepted, Rejected}
 use Rattle.strand_refute.specs.declared.refuting.Refutation.{Refutation}
@@ -32,10 +34,12 @@ abbrev pub SaysAccepted : Mode → List Event → Crash → Checked → Type 0
 SaysAccepted mode t crash Accepted = NoneIsJudged mode t crash
 SaysAccepted mode t crash (Rejected line) = Unit {0}
 
--- a refutation has an accepted certificate, with at most one line for each event before its last
+-- a refutation has an accepted certificate, with at most one line for each event before its last, which a file may have
+-- where a run may have the trace
 pub record IsCertified (mode : Mode) (t : List Event) (crash : Crash) (c : CertificateSeen) : Type 0 where
   pub accepted : IsAccepted mode t crash c
   pub few : length c.forced ≤ length t
+  pub fits : length t ≤ MOST_STEPS → CertificateFits c
 
 abbrev pub SaysRefuted : Mode → List Event → Crash → Refutation → Type 0
 SaysRefuted mode t crash (Refuted c) = IsCertified mode t crash c

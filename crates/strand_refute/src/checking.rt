@@ -69,7 +69,8 @@ fn check_lines(
 
 /// Checks a certificate by its lines alone, without the judge and without the graph: the words `initial` before the
 /// crash and `crash` after it, by their places in the persistent region, and the persists that were `joined`, by their
-/// numbers. It goes once over the events and once over the lines.
+/// numbers. It goes three times over the events, for the persists, the last joins and the crash image's values, and once
+/// over the lines.
 ///
 /// `Accepted` comes exactly where all lines are accepted and the last one is there (docs/certificates.md); then no judged
 /// set exists. `Rejected` names exactly the first line that isn't accepted.

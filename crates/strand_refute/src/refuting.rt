@@ -79,7 +79,8 @@ fn last_to(events: &[Event], marks: &[bool], word: u64) -> Option<u32>
 /// in the persistent region, and the persists that were `joined`, by their numbers.
 ///
 /// `Refuted` comes exactly where no judged set exists, with a certificate that `check` accepts and that has at most one
-/// line for each event before its last; `Possible` exactly where one exists, with the least one.
+/// line for each event before its last, so that it is within a certificate's limits for as many events as a run may
+/// have; `Possible` exactly where one exists, with the least one.
 pub fn refute(
     alloc: Global,
     graph: &Graph,

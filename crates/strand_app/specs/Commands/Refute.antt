@@ -1,5 +1,5 @@
 -- refute MACHINE IMAGE SCHEDULE STOP CRASH: a certificate that no set of persists that the order allows has the crash image, by the trace of a run.
-use Rattle.std.specs.Prelude.{◌≡◌, ℕ, List, [], ◌∷◌}
+use Rattle.std.specs.Prelude.{◌≡◌, ℕ, ◌≤◌, List, [], ◌∷◌, length, Ok}
 use Rattle.strand_events.specs.declared.event.Event.{Event}
 use Rattle.strand_inputs.specs.declared.mode.Mode.{Mode}
 use Rattle.strand_inputs.specs.declared.stop.Stop.{Stop}
@@ -11,7 +11,8 @@ use Rattle.strand_modules.specs.Bank.{BankSeen}
 use Rattle.strand_refute.specs.Accepted.{IsAccepted}
 use Rattle.strand_refute.specs.CertificateSeen.{CertificateSeen}
 use Rattle.strand_refute.specs.Checked.{NoneIsJudged}
-use Rattle.strand_refute.specs.Grammar.{certificate_text}
+use Rattle.strand_refute.specs.Grammar.{certificate_of, certificate_text}
+use Rattle.strand_refute.specs.declared.limits.TheConstants.{MOST_CERTIFICATE_BYTES}
 use Rattle.strand_report.specs.Verdict.{verdict_text}
 use Rattle.strand_run.specs.Seen.{visible_after}
 use Rattle.strand_app.specs.declared.status.Status.{Status}
@@ -20,12 +21,15 @@ use Rattle.strand_app.specs.Commands.Judge.{Question, judge_reads}
 use Rattle.strand_app.specs.Machine.{machine_rule}
 use Rattle.strand_app.specs.Rule.{Rule, Text}
 
--- No set is judged, and the lines are those of a certificate that is accepted: which one is free.
+-- No set is judged, and the lines are those of a certificate that is accepted: which one is free. It is within the limits of a
+-- certificate's file, and is read from the text.
 pub record HasCertificate (mode : Mode) (t : List Event) (crash : Crash) (text : Text) : Type 0 where
   pub certificate : CertificateSeen
   pub accepted : IsAccepted mode t crash certificate
   pub none : NoneIsJudged mode t crash
   pub lines : text ≡ certificate_text certificate
+  pub read : certificate_of text ≡ Ok certificate
+  pub short : length text ≤ MOST_CERTIFICATE_BYTES
 
 -- A judged set exists, and the line has the least one.
 pub record HasLeast (mode : Mode) (t : List Event) (crash : Crash) (text : Text) : Type 0 where
@@ -34,14 +38,14 @@ pub record HasLeast (mode : Mode) (t : List Event) (crash : Crash) (text : Text)
   pub line : text ≡ verdict_text (Yes list)
 
 -- Ok with a certificate, or no with the least judged set.
-abbrev pub Answers : Mode → List Event → Crash → Status → Text → Type 0
-Answers mode t crash status.Ok text = HasCertificate mode t crash text
-Answers mode t crash status.No text = HasLeast mode t crash text
-Answers mode t crash _ text = ⊥
+abbrev pub RefutesOrAllows : Mode → List Event → Crash → Status → Text → Type 0
+RefutesOrAllows mode t crash status.Ok text = HasCertificate mode t crash text
+RefutesOrAllows mode t crash status.No text = HasLeast mode t crash text
+RefutesOrAllows mode t crash _ text = ⊥
 
 -- by the visible run
 abbrev pub PutsRefutation : Question → Status → Text → Type 0
-PutsRefutation q end text = Answers q.run.config.mode (visible_after q.run q.run.steps).trace (crash_of q.run.image.persistent q.crash) end text
+PutsRefutation q end text = RefutesOrAllows q.run.config.mode (visible_after q.run q.run.steps).trace (crash_of q.run.image.persistent q.crash) end text
 
 abbrev pub AllowsCrash : Question → Text → Type 0
 AllowsCrash q text = HasLeast q.run.config.mode (visible_after q.run q.run.steps).trace (crash_of q.run.image.persistent q.crash) text

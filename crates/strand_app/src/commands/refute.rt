@@ -1,4 +1,5 @@
-ghost use Rattle.std.specs.Prelude.{◌≡◌, IfOk, length};
+ghost use Rattle.std.specs.Prelude.{◌≡◌, ◌≤◌, IfOk, length};
+ghost use Rattle.strand_base.specs.declared.limits.TheConstants.{MOST_STEPS};
 ghost use Rattle.strand_app.specs.CommandView.{refute_rule_in};
 ghost use Rattle.strand_app.specs.Commands.Refute.{PutsRefutation};
 ghost use Rattle.strand_app.specs.Judging.{AreAsked, question_of};
@@ -8,6 +9,7 @@ ghost use Rattle.strand_app.specs.Running.{MakesOnBank};
 ghost use Rattle.strand_app.specs.Runs.{Comes};
 ghost use Rattle.strand_app.specs.World.{world};
 ghost use Rattle.strand_modules.specs.Seen.{bank_seen};
+ghost use Rattle.strand_run.specs.Outcome.{view_of};
 
 use crate::command::RunWords;
 use crate::commands::judge::{Question, open_question};
@@ -26,6 +28,7 @@ fn refutation_of(alloc: Global, question: &Question, run: &Run) -> Result<Made, 
     requires persistent { run.now.machine.machine.program.sizes.persistent
         ≡ length question.now.setup.files.image.persistent }
     requires crash { length question.now.crash ≡ length question.now.setup.files.image.persistent }
+    requires few { length (view_of run.now).trace ≤ MOST_STEPS }
     ensures { IfOk result (TellsRefutation question.now run.now) }
 {
     let initial = question.setup.files.image.persistent();

@@ -28,6 +28,7 @@ use Rattle.strand_base.specs.declared.out_of_memory.OutOfMemory.{OutOfMemory}
 use Rattle.strand_refute.specs.declared.checking.Checked.{Checked}
 use Rattle.strand_refute.specs.declared.checking.Checked.TheVariants.{Accepted, Rejected}
 use Rattle.strand_refute.specs.Checked.{IsChecked, SaysAccepted}
+use Rattle.strand_refute.proofs.Checks.Matches.{made_forced, made_asks}
 
 -- line k names an event, and is accepted
 abbrev pub NamesAt : Mode → List Event → Crash → List Forced → ℕ → Type 0
@@ -45,15 +46,15 @@ module _ (mode : Mode) (t : List Event) (crash : Crash) where
   reason_root : (needed : Set) → ((e : ℕ) → needed e ≡ true → Root mode t crash e) → (e : ℕ) (reason : Reason) → Holds mode t crash needed e reason → Root mode t crash e
   reason_root needed rooted e Joined h = joined_root mode t crash e h
   reason_root needed rooted e (Order after) h = direct_root e after h.1 (rooted after h.0)
-  reason_root needed rooted e (Match None) h = forced_root mode t crash _ e h
-  reason_root needed rooted e (Match (Some after)) h = asked_root mode t crash after e h.1 (rooted after h.0)
+  reason_root needed rooted e (Match None) h = forced_root mode t crash _ e (made_forced t crash e h)
+  reason_root needed rooted e (Match (Some after)) h = asked_root mode t crash after e (made_asks t crash needed e after h) (rooted after h.needed_is)
 
   -- what a line names is an event of the trace
   pub holds_within : (needed : Set) (e : ℕ) (reason : Reason) → Holds mode t crash needed e reason → e < length t
   holds_within needed e Joined h = joined_within t e h
   holds_within needed e (Order after) h = event_within is_access t e (direct_parts mode t e after h.1).1
-  holds_within needed e (Match None) h = event_within is_persist t e h.first.1.persist
-  holds_within needed e (Match (Some after)) h = event_within is_persist t e h.1.next.1.persist
+  holds_within needed e (Match None) h = event_within is_persist t e h.offers.persist
+  holds_within needed e (Match (Some after)) h = event_within is_persist t e h.offers.persist
 
   -- each needed event is such an event
   lines_root : (lines : List Forced) (n : ℕ) → ((k : ℕ) → k < n → NamesAt mode t crash lines k) → (e : ℕ) → needed_by lines n e ≡ true → Root mode t crash e
@@ -141,7 +142,7 @@ module _ (mode : Mode) (t : List Event) (crash : Crash) where
       let before = lines_counted lines n (λ k lt. accepted k (omega (arith, lt))) in
       let here : needed_by lines (suc n) x ≡ true = or_left (names x (slice_get lines n)) (needed_by lines n x) (ap (names x) a.1 ∙ eq-eqb x x refl) in
       let other : (k : ℕ) → (k ≡ x → ⊥) → needed_by lines (suc n) k ≡ needed_by lines n k = λ k ne. ap (λ b. b || needed_by lines n k) (ap (names k) a.1 ∙ ne_eqb x k (λ e. ne (sym e))) in
-      omega (arith, before, count_new (length t) (needed_by lines n) (needed_by lines (suc n)) x (holds_within (needed_by lines n) x a.0.reason a.2.holds) a.2.new here other)
+      omega (arith, before, count_new (length t) (needed_by lines n) (needed_by lines (suc n)) x (holds_within (needed_by lines n) x a.0.reason a.2.holds) a.2.not_needed here other)
 
   pub few_lines : (lines : List Forced) → ((k : ℕ) → k < length lines → NamesAt mode t crash lines k) → length lines ≤ length t
   few_lines lines accepted = omega (arith, lines_counted lines (length lines) accepted, count_most (length t) (needed_by lines (length lines)))

@@ -23,7 +23,8 @@ use Rattle.strand_judge.proofs.Least.Marks.{marked_is, newly_marked, still_marke
 use Rattle.strand_refute.specs.declared.certificate.Reason.{Reason}
 use Rattle.strand_refute.specs.declared.certificate.Reason.TheVariants.{Joined, Order, Match}
 use Rattle.strand_refute.specs.declared.certificate.Forced.{Forced}
-use Rattle.strand_refute.specs.Accepted.{names, needed_by, Holds, IsAcceptedForced}
+use Rattle.strand_refute.specs.Accepted.{names, needed_by, Holds, IsAcceptedForced, IsFirstMade}
+use Rattle.strand_refute.proofs.Checks.Matches.{forced_made, made_asks, asks_made}
 use Rattle.strand_refute.specs.Work.{targets_after, lines_after, IsTarget, IsExplained}
 
 -- a line more names its event besides
@@ -45,11 +46,11 @@ module _ (mode : Mode) (t : List Event) (crash : Crash) where
   holds_along needed needed' more e Joined h = h
   holds_along needed needed' more e (Order after) h = (more after h.0, h.1)
   holds_along needed needed' more e (Match None) h = h
-  holds_along needed needed' more e (Match (Some after)) h = (more after h.0, h.1)
+  holds_along needed needed' more e (Match (Some after)) h = asks_made t crash needed' e after (more after h.needed_is) (made_asks t crash needed e after h)
 
   accepted_along : (needed needed' : Set) → ((e : ℕ) → needed' e ≡ needed e) → (f : Forced) → IsAcceptedForced mode t crash needed f → IsAcceptedForced mode t crash needed' f
   accepted_along needed needed' same f a = record {
-    new = same f.event ∙ a.new;
+    not_needed = same f.event ∙ a.not_needed;
     holds = holds_along needed needed' (λ e h. same e ∙ h) f.event f.reason a.holds;
   }
 
@@ -66,7 +67,7 @@ module _ (mode : Mode) (t : List Event) (crash : Crash) where
         | inl e ↦
             let same : g ≡ f = (let two : Some g ≡ Some f = sym at ∙ ap (slice_get (lines ++ f ∷ [])) e ∙ get_last lines f in cc) in
             subst (IsAcceptedForced mode t crash (needed_by (lines ++ f ∷ []) k)) (sym same) (record {
-              new = needed_kept lines f k x (omega (arith, e)) ∙ ap (λ n. needed_by lines n x) e ∙ false_from_ne_true (needed_by lines (length lines) x) (λ h. both_ways (set_of marks x) out (ex.marked x h));
+              not_needed = needed_kept lines f k x (omega (arith, e)) ∙ ap (λ n. needed_by lines n x) e ∙ false_from_ne_true (needed_by lines (length lines) x) (λ h. both_ways (set_of marks x) out (ex.marked x h));
               holds = holds_along (needed_by lines (length lines)) (needed_by (lines ++ f ∷ []) k) (λ y h. needed_kept lines f k y (omega (arith, e)) ∙ ap (λ n. needed_by lines n y) e ∙ h) x reason holds;
             })
         | inr others ↦ elim others [
@@ -229,7 +230,7 @@ module _ (mode : Mode) (t : List Event) (crash : Crash) where
 
 -- a word's first persist with the crash image's value is forced
 pub forced_at : (t : List Event) (first found firsts nexts : List ℕ) → AreOffered t (crash_of first found) (length found) 0 firsts nexts → (place : ℕ) → place < length found → (slice_index first place ≡ slice_index found place → ⊥) → (q : ℕ) → slice_index firsts place ≡ suc q
-    → (event_is is_persist t q ≡ true) × IsForced t (crash_of first found) (word_at t q) q
+    → (event_is is_persist t q ≡ true) × IsFirstMade t (crash_of first found) q
 forced_at t first found firsts nexts o place within differs q is =
     let offer : IsFirstOffer t (crash_of first found) (address_of place) 0 (suc q) = subst (IsFirstOffer t (crash_of first found) (address_of place) 0) is (o.first place within) in
     let to : address_of place ≡ word_at t q = sym offer.1.to in
@@ -239,7 +240,7 @@ forced_at t first found firsts nexts o place within differs q is =
       differs = λ e. differs (ap (slice_index first) (sym (place_again place)) ∙ e ∙ ap (slice_index found) (place_again place));
       first = offer;
     } in
-    (offer.1.persist, subst (λ w. IsForced t (crash_of first found) w q) to forced)
+    (offer.1.persist, forced_made t (crash_of first found) q (subst (λ w. IsForced t (crash_of first found) w q) to forced))
 
 -- the number of a first offer is within the trace
 pub offer_within : (t : List Event) (crash : Crash) (word k m : ℕ) → IsFirstOffer t crash word k m → m ≤ length t

@@ -13,6 +13,7 @@ use Rattle.strand_judge.proofs.Least.Offers.{asked_by, asked_within}
 use Rattle.strand_refute.specs.declared.certificate.Reason.TheVariants.{Match}
 use Rattle.strand_refute.specs.Accepted.{needed_by, Holds}
 use Rattle.strand_refute.specs.Work.{IsExplained}
+use Rattle.strand_refute.proofs.Checks.Matches.{asks_made}
 use Rattle.strand_refute.proofs.gathering.serve.Goals as goal
 
 -- the event that was read
@@ -57,4 +58,4 @@ returns-clause-explained c = λ first ex.
     → IsExplained mode ev crash mid.marks.items mid.targets.items mid.lines.items → IsExplained mode ev crash new.marks.items new.targets.items new.lines.items) c.events-events.ensures.events (c.in_ok-need_since.ensures.explained mode crash) in
     law (λ q is.
     let asks = a.sound q is in
-    (weaker is_persist is_access persist_access t q asks.next.1.persist, (now.named j (weaker is_persist is_access persist_access t j asks.persist) on, asks))) now
+    (weaker is_persist is_access persist_access t q asks.next.1.persist, asks_made t crash (needed_by mid.lines.items (length mid.lines.items)) q j (now.named j (weaker is_persist is_access persist_access t j asks.persist) on) asks)) now

@@ -1,4 +1,4 @@
-use Rattle.std.proofs.Common.{◌≡◌, Bool, List, subst}
+use Rattle.std.proofs.Common.{◌≡◌, Bool, List, arith, subst}
 use Rattle.std.specs.Prelude.{MatchOption}
 use Rattle.strand_events.specs.Order.{set_of}
 use Rattle.strand_judge.specs.Verdicts.{NamesWord, IsRefuted}
@@ -18,4 +18,4 @@ returns-in_ok-marks-in-No-clause-refuted c =
     let one = subst (λ ev. MatchOption c.last_to-last.result (IsNoneTo ev (set_of c.deref.result.now) word) (IsLastTo ev (set_of c.deref.result.now) word)) c.events.ensures.events c.last_to-last.ensures in
     let marks_is : c.deref.result.now ≡ w.marks.items = c.deref.ensures.value in
     let two = subst (λ (ms : List Bool). MatchOption c.last_to-last.result (IsNoneTo t (set_of ms) word) (IsLastTo t (set_of ms) word)) marks_is one in
-    certified mode t crash w.marks.items w.targets.items w.lines.items c.in_ok-marks-in-No.ensures.least c.in_ok-marks-in-No.ensures.explained word c.in-No.rank r c.last_to-last.result two
+    certified mode t crash w.marks.items w.targets.items w.lines.items c.in_ok-marks-in-No.ensures.least c.in_ok-marks-in-No.ensures.explained word c.in-No.rank r c.last_to-last.result two (omega arith)
