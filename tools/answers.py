@@ -75,8 +75,7 @@ class Run:
 
     def __init__(self, machine, image):
         self.seen = visible.Visible(image, machine[b"sets"], machine[b"ways"])
-        settings = {key.decode(): value.decode() if isinstance(value, bytes) else value for key, value in machine.items()}
-        self.turns = turns.Machine(len(image.entries), settings)
+        self.turns = turns.Machine(len(image.entries), formats.settings_of(machine))
         self.words = list(image.persistent)  # as the modules hold them
         self.values, self.bubbles = {}, []
 

@@ -47,13 +47,25 @@ class Order:
         return "barrier" if barriers and (self.mode == "epoch" or not strands) else None
 
 
+class Words:
+    """The persistent words by their addresses."""
+
+    def __init__(self, words):
+        self.words = words
+
+    def __contains__(self, address):
+        return address % 8 == 0 and 0 <= (address - names.BASES[2]) // 8 < len(self.words)
+
+    def __getitem__(self, address):
+        return self.words[(address - names.BASES[2]) // 8]
+
+
 class Certified:
     """The persistent words before the run and after the crash; and for each word the first persist with the value found."""
 
     def __init__(self, order, initial, crash):
         self.order = order
-        self.initial, self.found = ({names.BASES[2] + 8 * place: word for place, word in enumerate(words)}
-                                    for words in (initial, formats.read_crash(crash, len(initial))))
+        self.initial, self.found = (Words(words) for words in (initial, formats.read_crash(crash, len(initial))))
         self.first, self.later = {}, {}
         for number in range(len(order.events) - 1, -1, -1):
             event = order.events[number]

@@ -15,6 +15,8 @@ RANGES = {"cores": "1 to 8 cores (4 in a file of version 1)", "code": "1 to 1310
           "volatile": "0 to 262144 volatile words (131072 in a file of version 1)",
           "persistent": "1 to 262144 persistent words (131072 in a file of version 1)", "symbols": "at most 16384 symbols",
           "names": "at most 1146880 bytes of symbols"}
+OTHERS = {5: "the output failed before all was put", 6: "a memory module failed; the last line says which, and at what",
+          7: "there was no memory", 10: "a word of the command line is not UTF-8"}
 BAD_LINES = {"machine": marks.in_machine, "schedule": marks.in_schedule, "certificate": marks.in_certificate}
 
 
@@ -145,3 +147,27 @@ def explain(words, fault):
         line, (place, message) = fault_in_line(call, of, "limit" if kind == "limit" else what, rest)
         return Said(f"{name}, line {rest[0]}: {message}", line, place)
     return Said(f"{name}: {of_file(call, name, of, what, rest)}")
+
+
+def of_words(words):
+    """The command line where its words are no command, with the word at fault."""
+    found = commands.wrong_word(words)
+    if not found:
+        return None
+    place, message = found
+    before, at = " ".join(["strand", *words[:place]]), os.fsencode(" ".join(["strand", *words]))
+    begin = len(os.fsencode(before)) + 1
+    return Said(message, at, (begin, begin + len(os.fsencode(words[place])) if place < len(words) else begin + 1))
+
+
+def said(words, status, line):
+    """What is said of a call that ended with this status and put this line last, or None."""
+    if status in OTHERS:
+        return Said(OTHERS[status])
+    if status == 2:
+        return of_words(words)
+    fault = line.split()
+    try:
+        return explain(words, fault[1:]) if fault[:1] == ["fault"] else None
+    except (OSError, LookupError, ValueError, StopIteration):
+        return None  # a file changed meanwhile

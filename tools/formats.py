@@ -3,6 +3,7 @@
 Written from these two pages alone, and not from the program's code, so that tools/fuzz and tools/hostile compare two readings.
 A reader gives the value, or raises `Refused` with the first fault and its place. It is outside of what is proved.
 """
+import io
 import itertools
 import re
 import struct
@@ -64,8 +65,9 @@ def number_of(word):
 
 def plain_lines(data):
     """The lines, without the one carriage return that is dropped and without comments."""
-    for line in data.split(b"\n"):
-        yield (line[:-1] if line.endswith(b"\r") else line).split(b"#")[0]
+    lines = io.BytesIO(data)  # which takes one line at a time out of the largest text
+    for line in itertools.chain(lines, [b""] if data.endswith(b"\n") or not data else []):
+        yield line.removesuffix(b"\n").removesuffix(b"\r").partition(b"#")[0]
 
 
 def lines_of(data):
@@ -96,6 +98,11 @@ def read_machine(data):
         if key not in values:
             raise Refused("input", "missing", key.decode())
     return {b"conflict": b"stall", **values}
+
+
+def settings_of(machine):
+    """What a machine file says, in words and numbers."""
+    return {key.decode(): value.decode() if isinstance(value, bytes) else value for key, value in machine.items()}
 
 
 def step_of(words):

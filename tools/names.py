@@ -6,7 +6,6 @@ import bisect
 import re
 
 import formats
-import runs
 
 BASES, WIDTHS = (0x10000000, 0x20000000, 0x40000000), (4, 8, 8)  # of code, volatile and persistent words
 MOST = 8  # names of a list
@@ -58,17 +57,3 @@ class Names:
             return number_of(text)
         behind = number_of(found[2] or "0")
         return None if behind is None else self.addresses[self.names.index(found[1])] + behind
-
-
-def image_of(path):
-    """The image of a file. One that is none ends the tool with a word."""
-    try:
-        with open(path, "rb") as file:
-            data = file.read(formats.BYTES["image"] + 1)
-        if len(data) > formats.BYTES["image"]:
-            runs.stop(f"{path}: an image has at most {formats.BYTES['image']} bytes")
-        return formats.read_image(data)
-    except OSError as fault:
-        runs.stop(f"{path}: {fault.strerror}")
-    except formats.Refused as fault:
-        runs.stop(f"{path}: no image: {fault.rest}")

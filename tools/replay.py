@@ -1,21 +1,17 @@
-"""Where each persist of a run was, step by step: docs/cycle.md over what the program puts of the run.
+"""Where each persist of a run was, step by step: docs/cycle.md and docs/steps.md over what the program puts of the run.
 
-Nothing is executed here. What each core retired is read from the listing; where an instruction may jump, the program is
-asked where the core then stands. Every turn is worked out (turns.py), but for a core's bubble where the run doesn't come to the
-instruction later; and a difference from the program's report ends the tool with a word. It is outside of what is proved.
+The cores' instructions are executed (visible.py), and every turn is worked out (turns.py). A difference from the program's report or
+trace ends the tool with a word. It is outside of what is proved.
 """
-import collections
-
+import assembler
+import formats
+import inputs
 import names
 import runs
 import turns
+import visible
 
-LOADS = {"lb", "lh", "lw", "ld", "lbu", "lhu", "lwu"}
-STORES = {"sb", "sh", "sw", "sd"}
-KINDS = {**dict.fromkeys(LOADS, "load"), **dict.fromkeys(STORES, "store"), "persistbarrier": "barrier",
-         "newstrand": "newstrand", "joinstrand": "join", "ecall": "out"}
-BRANCHES = {"beq", "bne", "blt", "bge", "bltu", "bgeu", "jalr"}
-CODE = names.BASES[0]
+PERSISTENT = names.BASES[2]
 
 
 class Event(turns.Event):
@@ -29,98 +25,85 @@ class Event(turns.Event):
         self.step = None
 
 
-class Core:
-    """Where a core stands (`pc`, or unknown after step `asked`), and the events that it is still to make."""
-
-    def __init__(self, entry, events):
-        self.pc, self.asked = CODE + 4 * entry, None
-        self.events = collections.deque(events)
-
-
 class Run:
-    """A run: its steps, settings and report, the listing's code, the trace's events, and the image's names."""
+    """A run of so many steps at most: its steps, settings and report, the trace's events, what the cores see, and the image's names."""
 
-    def __init__(self, program, machine, image, schedule, stop):
+    def __init__(self, program, machine, image, schedule, stop, most=formats.MOST_STEPS):
         self.words = (machine, image, schedule)
         self.program = program
-        self.report = self.ask("run", stop)
+        self.report = self.ask("run", stop, runs.WORDS)
         self.settings = runs.settings(machine)
         self.steps = runs.steps_of(schedule)[:int(self.report[0].split()[1])]
+        if len(self.steps) > most:
+            inputs.stop(f"{len(self.steps)} steps are too many: take a STOP up to {most}")
         self.bubbles = runs.bubbles_of(self.report)
-        self.lives = [life for _, life in runs.cores_of(self.report)]
-        listing = runs.ask(program, "list", image)
-        begin, end = listing.index(".code") + 1, listing.index(".volatile")
-        self.code = [line.replace(",", " ").split() for line in listing[begin:end] if not line.endswith(":")]
-        self.names = names.Names(names.image_of(image))
-        self.events = [Event(line.split()[2:]) for line in self.ask("trace", stop) if line.startswith("event ")]
-        self.cores = [Core(int(line.split()[1]), (event for event in self.events if event.core == number))
-                      for number, line in enumerate(listing[:begin - 1])]
-        self.turns, self.other = turns.Machine(len(self.cores), self.settings), []
+        self.cores = runs.cores_of(self.report)
+        self.lives = [life for _, life in self.cores]
+        read = inputs.read("image", image)
+        self.names, self.seen = names.Names(read), visible.Visible(read, self.settings["sets"], self.settings["ways"])
+        self.events = [Event(line.split()[2:]) for line in self.ask("trace", stop, runs.EDGES)]
+        self.turns, self.other, self.made = turns.Machine(len(self.cores), self.settings), [], 0
         self.persists = [event for event in self.events if event.persist is not None]
         self.chain = runs.numbers_of(self.report, "path")
 
-    def ask(self, command, stop):
-        return runs.ask(self.program, command, *self.words, str(stop))
+    def ask(self, command, stop, skipped=()):
+        return runs.ask(self.program, command, *self.words, str(stop), skipped=skipped)
 
 
-def retire(run, step, number):
-    """The instruction that a core retires at this step, and its event, if it makes one."""
-    core = run.cores[number]
-    if core.pc is None:
-        core.pc = runs.cores_of(run.ask("run", core.asked))[number][0]
-    place = (core.pc - CODE) // 4
-    words = run.code[place] if core.pc % 4 == 0 and 0 <= place < len(run.code) else ["fetch"]
-    name = words[0]
-    core.pc = core.pc + int(words[2]) if name == "jal" else None if name in BRANCHES else core.pc + 4
-    core.asked = step
-    kind = KINDS.get(name)
-    if kind is None or (step == run.last[number] and run.lives[number] != "running"):
-        run.other.append((step, number, " ".join(words)))
-        return
-    if run.made == len(run.events) or (run.events[run.made].kind, run.events[run.made].core) != (kind, number):
-        runs.stop(f"step {step} retires {name} on core {number}, and event {run.made} of the trace is another")
-    event = run.cores[number].events.popleft()
-    event.step = step
-    run.made += 1
-    compare(run, step, run.turns.retire(event))
+def text_at(seen, place):
+    """An instruction's text without commas, or `fetch' where there is none."""
+    at = (place - assembler.BASES["code"]) // 4
+    if place % 4 or not 0 <= at < len(seen.code):
+        return "fetch"
+    return (assembler.text_of(seen.code[at]) or f".word 0x{seen.code[at]:08x}").replace(",", "")
 
 
 def compare(run, step, found):
     """Ends the tool where the program tells another turn."""
     told = run.bubbles.get(step)
     if found != told:
-        runs.stop(f"step {step}, `{' '.join(map(str, run.steps[step - 1]))}`: by docs/cycle.md it is {found or 'done'}, and the "
-                  f"program says {told or 'done'}")
+        inputs.stop(f"step {step}, `{' '.join(map(str, run.steps[step - 1]))}': by docs/cycle.md it is {found or 'done'}, and the "
+                    f"program says {told or 'done'}")
 
 
-def hold_up(run, step, number):
-    """A core's bubble. Its instruction is the one that makes the core's next event, if the run goes on so far."""
-    coming = run.cores[number].events
-    if coming and run.bubbles[step] != "ended":
-        compare(run, step, run.turns.turn(coming[0]))
-    elif run.bubbles[step] == "conflict" and run.turns.is_tag:
-        runs.stop(f"step {step} is a bubble for a conflict, and under tag there is none")
+def next_of_trace(run, step, number, kind, word):
+    """The trace's next event, which has to be this one."""
+    event = run.events[run.made] if run.made < len(run.events) else None
+    if event is None or (event.kind, event.core, event.word) != (kind, number, word):
+        inputs.stop(f"step {step} makes the event {kind} of core {number}, and event {run.made} of the trace is another")
+    event.step = step
+    run.made += 1
+    return event
 
 
-def last_retired(run):
-    """Each core's last step that was no bubble."""
-    last = {}
-    for step, (letter, *numbers) in enumerate(run.steps, 1):
-        if letter == "c" and step not in run.bubbles:
-            last[numbers[0]] = step
-    return last
+def retire(run, step, number):
+    """A core's step: the turn of its next instruction, and its event, if it makes one."""
+    seen, core = run.seen, run.seen.cores[number]
+    if core.life != "running":
+        return compare(run, step, "ended")
+    kind, address = seen.next_event(number) or (None, None)
+    word = address // 8 * 8 if address is not None else None
+    if step in run.bubbles:
+        is_persist = kind == "store" and word >= PERSISTENT
+        return compare(run, step, kind and run.turns.turn(turns.Event(kind, number, word, 0 if is_persist else None)))
+    place, outs = core.pc, len(seen.outs)
+    seen.retire(number)
+    kind = "out" if len(seen.outs) > outs else kind
+    if kind is None:
+        run.other.append((step, number, text_at(seen, place)))
+        return None
+    return compare(run, step, run.turns.retire(next_of_trace(run, step, number, kind, word)))
 
 
 def replay(run):
     """Makes the run's steps, and fills in when each event was made and moved."""
-    run.last, run.made = last_retired(run), 0
     for step, (letter, *numbers) in enumerate(run.steps, 1):
-        if letter != "c":
-            compare(run, step, run.turns.move(step, letter, *numbers))
-        elif step in run.bubbles:
-            hold_up(run, step, *numbers)
-        else:
+        if letter == "c":
             retire(run, step, *numbers)
+        else:
+            compare(run, step, run.turns.move(step, letter, *numbers))
     durable = [event.persist for event in run.persists if turns.is_durable(event)]
     if run.made != len(run.events) or durable != runs.numbers_of(run.report, "durable"):
-        runs.stop(f"by docs/cycle.md {len(durable)} persists are durable, {durable}, and the program says otherwise")
+        inputs.stop(f"by docs/cycle.md {len(durable)} persists are durable, {durable}, and the program says otherwise")
+    if [(core.pc, core.life) for core in run.seen.cores] != run.cores:
+        inputs.stop("by docs/steps.md the cores stand elsewhere than the program says")

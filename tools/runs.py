@@ -4,52 +4,53 @@ The tools read a run by this. It is outside of what is proved.
 """
 import os
 import subprocess
-import sys
 
-TOP = os.path.dirname(os.path.dirname(os.path.abspath(__file__)))
-PROGRAM = os.path.join(TOP, "strand")
+import faults
+import formats
+import inputs
 
-
-def stop(message, status=1):
-    """Ends with a word on standard error and this status."""
-    print(f"{os.path.basename(sys.argv[0])}: {message}", file=sys.stderr)
-    sys.exit(status)
+WORDS = (b"reg ", b"vis ", b"pm ")  # lines of a report that most tools don't read; there may be 800,000
+EDGES = (b"edge ",)
 
 
-def answer(program, *words):
-    """The lines that the program puts for these words, and its status."""
+def answer(program, *words, skipped=()):
+    """The lines that the program puts for these words, without those that begin so, and its status."""
     try:
-        done = subprocess.run([program, *words], stdin=subprocess.DEVNULL, stdout=subprocess.PIPE)
+        with subprocess.Popen([program, *words], stdin=subprocess.DEVNULL, stdout=subprocess.PIPE,
+                              env={**os.environ, "STRAND_HELP": "off"}) as called:
+            lines = [line.decode("ascii").rstrip("\n") for line in called.stdout if not line.startswith(skipped)]
     except OSError as fault:
-        stop(f"{program}: {fault.strerror}")
-    return done.stdout.decode("ascii").splitlines(), done.returncode
+        inputs.stop(f"{program}: {inputs.why_unread(fault)}")
+    return lines, called.returncode
 
 
 def fault_of(words, lines, status):
     """A sentence on an answer that isn't the one asked for."""
-    return f"`{' '.join(words)}` ends with status {status}: {lines[-1] if lines else 'no line'}"
+    line = lines[-1][:200] if lines else "no line"
+    said = faults.said(words, status, line)
+    return said.message if said else f"`{' '.join(words)}` ends with status {status}: {line}"
 
 
-def ask(program, *words):
-    """The lines that the program puts for these words. A fault ends this tool, with the program's line."""
-    lines, status = answer(program, *words)
+def ask(program, *words, skipped=()):
+    """The lines that the program puts for these words. A fault ends this tool, with what it means."""
+    lines, status = answer(program, *words, skipped=skipped)
     if status != 0:
-        stop(fault_of(words, lines, status))
+        inputs.stop(fault_of(words, lines, status))
     return lines
 
 
 def words_of(name):
     """The words of each line of a text that the program has accepted, without comments and empty lines."""
     with open(name, "rb") as file:
-        lines = file.read().split(b"\n")
-    found = (line.split(b"#")[0].decode("ascii").split() for line in lines)
-    return [words for words in found if words]
+        for line in file:
+            words = line.partition(b"#")[0].decode("ascii").split()
+            if words:
+                yield words
 
 
 def settings(name):
     """A machine file's mode, sizes and conflict."""
-    return {"conflict": "stall",
-            **{key: value if key in ("mode", "conflict") else int(value) for key, value in words_of(name)}}
+    return formats.settings_of(inputs.read("machine", name))
 
 
 def steps_of(name):
