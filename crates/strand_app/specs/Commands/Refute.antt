@@ -13,7 +13,7 @@ use Rattle.strand_refute.specs.CertificateSeen.{CertificateSeen}
 use Rattle.strand_refute.specs.Checked.{NoneIsJudged}
 use Rattle.strand_refute.specs.Grammar.{certificate_text}
 use Rattle.strand_report.specs.Verdict.{verdict_text}
-use Rattle.strand_run.specs.Seen.{visible_after}
+use Rattle.strand_again.specs.Seen.{visible_after}
 use Rattle.strand_app.specs.declared.status.Status.{Status}
 use Rattle.strand_app.specs.declared.status.Status.TheVariants as status
 use Rattle.strand_app.specs.Commands.Judge.{Question, judge_reads}
