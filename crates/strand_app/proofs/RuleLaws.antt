@@ -22,7 +22,7 @@ use Rattle.strand_run.proofs.LeavesAllowed.{leaves_allowed, may_leave_allowed}
 use Rattle.strand_app.specs.declared.status.Status.{Status}
 use Rattle.strand_app.specs.declared.status.Status.TheVariants as status
 use Rattle.strand_app.specs.Causes.{EndsWith, TellsRefusal}
-use Rattle.strand_app.specs.Command.{Command, asm, list, upgrade, run, judge, refute, check, trace, gen, gen_image, gen_schedule}
+use Rattle.strand_app.specs.Command.{Command, asm, list, upgrade, run, judge, refute, check, trace, again, gen, gen_image, gen_schedule}
 use Rattle.strand_app.specs.Commands.Check.{Claim, PutsChecked, RejectsClaim, checked_text, checked_status}
 use Rattle.strand_app.specs.Commands.Gen.{PutsGen, PutsSummary, RefutesHeld, gen_reads, gen_rule}
 use Rattle.strand_app.specs.Commands.Judge.{Question, PutsVerdict, RefutesCrash, verdict_status}
@@ -35,6 +35,7 @@ use Rattle.strand_app.specs.Reads.{Contents, Reads}
 use Rattle.strand_app.specs.Rule.{Rule, Text}
 use Rattle.strand_app.specs.RuleOf.{rule_of}
 use Rattle.strand_app.specs.Still.{still_rule}
+use Rattle.strand_app.proofs.AgainSound.{again_sound}
 use Rattle.strand_app.proofs.Laws.{Means, MeetsRefusal, Sound}
 
 meets_none : (f : Option Course) → f ≡ None → MeetsRefusal f → ⊥
@@ -199,6 +200,7 @@ sound_of (Some (judge machine image schedule stop crash)) before = machine_sound
 sound_of (Some (refute machine image schedule stop crash)) before = machine_sound Question (λ q. q.run) (λ q bank. PutsRefutation q) AllowsCrash _ _ before _ refutation_meant
 sound_of (Some (check machine image schedule stop crash certificate)) before = machine_sound Claim (λ q. q.run) (λ q bank. PutsChecked q) RejectsClaim _ _ before _ checked_meant
 sound_of (Some (trace machine image schedule stop)) before = machine_sound Inputs (λ u. u) PutsTrace (λ u t. ⊥) _ _ before _ (λ u. trace_meant u before)
+sound_of (Some (again machine image pairs)) before = again_sound machine image pairs before _
 sound_of (Some (gen seed size)) before =
     stepping_sound Inputs (λ u. u) (gen_line seed size) (PutsGen seed size) (λ u. RefutesHeld seed size u before) [] (λ contents. gen_reads before.size seed size) before _ (gen_means seed size before _) (gen_answers seed size before)
 sound_of (Some (gen_image seed size)) before = still_sound _ _ _ _ before _

@@ -93,11 +93,14 @@ module _ (u : Inputs) (b0 b1 b2 : BankSeen) (fills : Fills {T = Unit {0}} b0 b1 
     shown = record { between = b2; kept_first = kept_of kept; kept_second = keeps_same b2; first = refused_of b2 r.fault run.refused; second = refl };
     kept = kept_of kept;
     leaves = ran_of (steps_made r.fault u.steps) (length u.image.persistent) run.stands run.accepted;
-    is = (refl, record {
-      size = ap (λ (m : Machine). m.program.sizes.persistent) run.machine_is;
-      view = view_is u r run.machine_is run.turns_are;
-      held = record { count = run.words.count; words = held_of b0.told b1.told fills.done run.words.words };
-    });
+    is = (
+      refl,
+      record {
+        size = ap (λ (m : Machine). m.program.sizes.persistent) run.machine_is;
+        view = view_is u r run.machine_is run.turns_are;
+        held = record { count = run.words.count; words = held_of b0.told b1.told fills.done run.words.words };
+      },
+    );
   }
     where
       held_of : (a b : Option (List ℕ)) → b ≡ front_written u.image.persistent a → OnSome b (r.held ≡ image_after u (steps_made r.fault u.steps)) → OnSome a (r.held ≡ image_after u (steps_made r.fault u.steps))
@@ -117,13 +120,16 @@ module _ (u : Inputs) (b0 b1 b2 : BankSeen) (fills : Fills {T = Unit {0}} b0 b1 
 
   -- no memory was left behind the fill
   pub run_stopped : Keeps b1 b2 → IsOutOfMemory u b1 b2 → Keeps b0 b2 × MayLeave u b0 b2
-  run_stopped kept run = (kept_of kept, record {
-    stands = inr (inr (run.stands.0, run.stands.1, behind (take run.stands.0 u.steps) run.stands.2));
-    accepted = record {
-      stores = length u.image.persistent + run.stores;
-      reads = run.reads;
-      few_stores = omega (arith, run.few_stores);
-      few_reads = run.few_reads;
-      accepts = accepted_of run.stores run.reads run.accepted;
-    };
-  })
+  run_stopped kept run = (
+    kept_of kept,
+    record {
+      stands = inr (inr (run.stands.0, run.stands.1, behind (take run.stands.0 u.steps) run.stands.2));
+      accepted = record {
+        stores = length u.image.persistent + run.stores;
+        reads = run.reads;
+        few_stores = omega (arith, run.few_stores);
+        few_reads = run.few_reads;
+        accepts = accepted_of run.stores run.reads run.accepted;
+      };
+    },
+  )

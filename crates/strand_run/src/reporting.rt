@@ -27,12 +27,7 @@ pub fn module_fault(fault: Option<StepFault>) -> Option<ModuleFault>
 }
 
 // Appends the report of a run with this path.
-fn put_report(
-    alloc: Global,
-    run: &Ran,
-    path: &Path,
-    into: &mut Vec<u8>,
-) -> Result<(), OutOfMemory>
+fn put_report(alloc: Global, run: &Ran, path: &Path, into: &mut Vec<u8>) -> Result<(), OutOfMemory>
     ensures { Puts result (report_text (view_of run.now) path.now.chain)
         into.old.items into.new.items }
 {

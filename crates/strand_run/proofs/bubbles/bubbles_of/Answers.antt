@@ -12,6 +12,6 @@ loop-i-preserved c =
     elim c.match-turn.branch [
       | in-Bubble+in_ok-push w ↦
           rw w.bubbles-is (w.in_ok-push.ensures.items ∙ ap (λ (bs : List BubbleAt). bs ++ record { cycle = c.loop-i.i + 1; cause = w.in-Bubble.cause } ∷ []) c.loop-i.invariant
-              ∙ sym (bubble_next c.args.turns.now c.loop-i.i _ w.in-Bubble.cause (omega arith) w.in-Bubble.is))
+          ∙ sym (bubble_next c.args.turns.now c.loop-i.i _ w.in-Bubble.cause (omega arith) w.in-Bubble.is))
       | in_default w ↦ rw (w.bubbles-is, c.loop-i.invariant) (sym (other_next c.args.turns.now c.loop-i.i _ (omega arith) w.in_default.not-Bubble))
     ]
