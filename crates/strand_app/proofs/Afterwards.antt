@@ -1,5 +1,5 @@
 -- Serves clause afterwards of strand_main: what a call leaves in the bank, by what each answer of its rule means.
-use Rattle.std.proofs.Common.{◌≡◌, Bool, true, false, refl, sym, inl, inr, subst}
+use Rattle.std.proofs.Common.{◌≡◌, ◌∙◌, Bool, true, false, refl, sym, inl, inr, subst}
 use Rattle.std.specs.Prelude.{Some, None}
 use Rattle.std.specs.declared.option.Option.{Option}
 use Rattle.strand_modules.specs.Bank.{BankSeen}
@@ -32,23 +32,26 @@ still_of before after None none shown = shown
 still_of before after (Some c) none shown = cc
 
 -- where the words are no command, nothing is run
-pub idle_of : (command : Option Command) (bank : BankSeen) (found : (rule_of command bank).Found) (f : Option Course) → command ≡ None → (rule_of command bank).Allows found f → f ≡ None
-idle_of None bank found f none allowed = allowed
-idle_of (Some command) bank found f none allowed = cc
+pub idle_of : (command : Option Command) (bank : BankSeen) (found : (rule_of command bank).Found) (way : (rule_of command bank).Way) → command ≡ None → (rule_of command bank).Allows found way
+    → ((rule_of command bank).course_of way ≡ None) × ((rule_of command bank).counted_from way ≡ bank)
+idle_of None bank found way none allowed = (allowed, refl)
+idle_of (Some command) bank found way none allowed = cc
 
-module _ (r : Rule) (W : Type 0) (sound : Sound r W) (idle : (found : r.Found) (f : Option Course) → W → r.Allows found f → f ≡ None) (before after : Outside) where
-  left : (end : Status) (text : Text) (made : Makes r before.world after.world end text) (Such : Option Course → Type 0) → Such made.fault → LeftBy r before.world after.world Such
-  left end text made Such such = record { found = made.found; opened = made.opened; course = made.fault; such = such; shown = made.shown; leaves = made.leaves }
+module _ (r : Rule) (W : Type 0) (before : Outside) (sound : Sound r before.world.bank W)
+    (idle : (found : r.Found) (way : r.Way) → W → r.Allows found way → (r.course_of way ≡ None) × (r.counted_from way ≡ before.world.bank)) (after : Outside) where
+  left : (end : Status) (text : Text) (made : Makes r before.world after.world end text) (Such : Option Course → Type 0) → Such (r.course_of made.way) → LeftBy r before.world after.world Such
+  left end text made Such such = record { found = made.found; opened = made.opened; way = made.way; such = such; shown = made.shown; leaves = made.leaves }
 
   unrefused : (end : Status) (text : Text) (made : Makes r before.world after.world end text) → (end ≡ status.ModuleFault → ⊥) → LeftBy r before.world after.world IsUnrefused
   unrefused end text made other =
-      left end text made IsUnrefused (unrefused_of made.fault (λ meets. other (sound.answers made.found made.fault end text made.allowed made.puts meets)))
+      left end text made IsUnrefused (unrefused_of (r.course_of made.way) (λ meets. other (sound.answers made.found made.way after.world.bank end text made.allowed made.puts meets)))
 
-  of_made : (end : Status) (text : Text) (made : Makes r before.world after.world end text) → Means r W made.found made.fault end text → BankAt r before.world after.world end text
+  of_made : (end : Status) (text : Text) (made : Makes r before.world after.world end text) → Means r W made.found made.way end text → BankAt r before.world after.world end text
   of_made status.Ok text made means = unrefused status.Ok text made (λ e. cc)
   of_made status.No text made means = unrefused status.No text made (λ e. cc)
   of_made status.ModuleFault text made means = left status.ModuleFault text made _ means
-  of_made status.Words text made means = still_of before.world.bank after.world.bank made.fault (idle made.found made.fault means made.allowed) made.shown
+  of_made status.Words text made means =
+      let still = idle made.found made.way means made.allowed in still_of (r.counted_from made.way) after.world.bank (r.course_of made.way) still.0 made.shown ∙ still.1
   of_made _ text made means = absurd means
 
   of_content : (is_limit : Bool) (text : Text) → after.world.bank ≡ before.world.bank → BankAt r before.world after.world (content_status is_limit) text
@@ -62,7 +65,7 @@ module _ (r : Rule) (W : Type 0) (sound : Sound r W) (idle : (found : r.Found) (
   of_refusal (refusal.Size size) text same = same
 
   bank_at : (end : Status) (text : Text) → ComesTo r before.world after.world end text → BankAt r before.world after.world end text
-  bank_at end text (inl made) = of_made end text made (sound.means made.found made.fault end text made.puts)
+  bank_at end text (inl made) = of_made end text made (sound.means made.found made.way after.world.bank end text made.puts)
   bank_at end text (inr (inl refuses)) =
       subst (λ (s : Status). BankAt r before.world after.world s text) (sym refuses.status) (of_refusal refuses.refused text refuses.same)
   bank_at end text (inr (inr misses)) = subst (λ (s : Status). BankAt r before.world after.world s text) (sym misses.status) misses.same
@@ -73,12 +76,12 @@ module _ (r : Rule) (W : Type 0) (sound : Sound r W) (idle : (found : r.Found) (
   of_stops (inr (inr stops)) = inl stops.same
 
   put : (result : Status) → (result ≡ status.Memory → ⊥) → (result ≡ status.SinkFault → ⊥) → Runs r before after result → BankAtPut r before after result
-  put result memory sink runs = let c = clause.came r W sound before after result memory sink runs in (c.text, c.taken, (c.made, bank_at result c.text c.made))
+  put result memory sink runs = let c = clause.came r W before sound after result memory sink runs in (c.text, c.taken, (c.made, bank_at result c.text c.made))
 
   pub afterwards_of : (result : Status) → Runs r before after result → Afterwards r before after result
-  afterwards_of status.Memory runs = of_stops (clause.memory_of r W sound before after status.Memory runs refl).stops
+  afterwards_of status.Memory runs = of_stops (clause.memory_of r W before sound after status.Memory runs refl).stops
   afterwards_of status.SinkFault runs =
-      let cause = clause.sink_of r W sound before after status.SinkFault runs refl in (cause.end, cause.text, cause.fails.takes, (cause.made, bank_at cause.end cause.text cause.made))
+      let cause = clause.sink_of r W before sound after status.SinkFault runs refl in (cause.end, cause.text, cause.fails.takes, (cause.made, bank_at cause.end cause.text cause.made))
   afterwards_of status.Ok runs = put status.Ok (λ e. cc) (λ e. cc) runs
   afterwards_of status.No runs = put status.No (λ e. cc) (λ e. cc) runs
   afterwards_of status.Words runs = put status.Words (λ e. cc) (λ e. cc) runs

@@ -32,7 +32,7 @@ no_command_runs before sink sink' result ends =
       made = inl (record {
         found = tt;
         opened = record { contents = []; says = record { first = tt; is = λ others. refl }; fetched = first_none [] before.files; all = refl };
-        fault = None;
+        way = None;
         allowed = refl;
         shown = refl;
         kept = keeps_same before.bank;

@@ -11,7 +11,8 @@ use Rattle.strand_modules.specs.Bank.{BankSeen}
 use Rattle.strand_report.specs.Refusals.{refusal_line, content_is_limit}
 use Rattle.strand_report.specs.declared.refusal.Refusal.{Refusal}
 use Rattle.strand_report.specs.declared.refusal.Refusal.TheVariants as refusal
-use Rattle.strand_run.specs.Fault.{Course, FaultCounts, fill, ran}
+use Rattle.strand_again.specs.Stepping.{FaultCounts}
+use Rattle.strand_run.specs.Fault.{Course, fill, ran}
 use Rattle.strand_app.specs.declared.status.Status.{Status}
 use Rattle.strand_app.specs.declared.status.Status.TheVariants as status
 use Rattle.strand_app.specs.Answers.{content_status, refusal_status}
@@ -88,7 +89,7 @@ unrefused heading before after (Some (ran store (Some n))) text quiet shown tell
 unrefused heading before after (Some (ran (Some f) None)) text quiet shown tells = quiet f.«module» (omega (arith, shown.first.rose, shown.kept_second.later f.«module»))
 unrefused heading before after (Some (ran None None)) text quiet shown tells = tells
 
-module _ (r : Rule) (W : Type 0) (sound : Sound r W) (before after : Outside) where
+module _ (r : Rule) (W : Type 0) (before : Outside) (sound : Sound r before.world.bank W) (after : Outside) where
   -- a text was put whole, and how it came to it
   pub record Came (result : Status) : Type 0 where
     pub text : Text
@@ -109,20 +110,20 @@ module _ (r : Rule) (W : Type 0) (sound : Sound r W) (before after : Outside) wh
   own result text refusal file (inr (inl refuses)) = absurd (refusal (subst IsRefusalStatus (sym refuses.status) (refusal_is refuses.refused)))
   own result text refusal file (inr (inr misses)) = absurd (file misses.status)
 
-  means : (result : Status) (text : Text) (made : Makes r before.world after.world result text) → Means r W made.found made.fault result text
-  means result text made = sound.means made.found made.fault result text made.puts
+  means : (result : Status) (text : Text) (made : Makes r before.world after.world result text) → Means r W made.found made.way result text
+  means result text made = sound.means made.found made.way after.world.bank result text made.puts
 
   tells : (result : Status) (text : Text) → Makes r before.world after.world result text → Takes before.sink.taken after.sink.taken text → Tells r before after result
   tells result text made taken = record {
     found = made.found;
     opened = made.opened;
-    fault = made.fault;
+    way = made.way;
     allowed = made.allowed;
     shown = made.shown;
     text = text;
     taken = taken;
     puts = made.puts;
-    holds = sound.holds made.found made.fault after.world.bank made.leaves;
+    holds = sound.holds made.found made.way after.world.bank made.leaves;
   }
 
   told : (result : Status) → (result ≡ status.Memory → ⊥) → (result ≡ status.SinkFault → ⊥) → (IsRefusalStatus result → ⊥) → (result ≡ status.FileFault → ⊥) → Runs r before after result → Tells r before after result
@@ -152,12 +153,12 @@ module _ (r : Rule) (W : Type 0) (sound : Sound r W) (before after : Outside) wh
   bank_refused runs =
       let c = came status.ModuleFault (λ e. cc) (λ e. cc) runs in
       let made = own status.ModuleFault c.text (λ x. x) (λ e. cc) c.made in
-      go made c.text c.taken made.fault made.allowed made.shown (means status.ModuleFault c.text made)
+      go made c.text c.taken (r.course_of made.way) refl made.shown (means status.ModuleFault c.text made)
     where
-      go : {text : Text} (made : Makes r before.world after.world status.ModuleFault text) (put : Text) → Takes before.sink.taken after.sink.taken put → (f : Option Course) → r.Allows made.found f
-          → ShownBy before.world.bank after.world.bank f → IsSomeAnd f (λ b. TellsRefusal r.heading b put) → ModuleCause r before after
-      go made put taken None allowed shown says = absurd says
-      go made put taken (Some b) allowed shown says = record { found = made.found; opened = made.opened; fault = b; allowed = allowed; shown = shown; text = put; tells = says; taken = taken }
+      go : {text : Text} (made : Makes r before.world after.world status.ModuleFault text) (put : Text) → Takes before.sink.taken after.sink.taken put → (f : Option Course) → r.course_of made.way ≡ f
+          → ShownBy (r.counted_from made.way) after.world.bank f → IsSomeAnd f (λ b. TellsRefusal r.heading b put) → ModuleCause r before after
+      go made put taken None is shown says = absurd says
+      go made put taken (Some b) is shown says = record { found = made.found; opened = made.opened; way = made.way; allowed = made.allowed; course = b; taken_is = is; shown = shown; text = put; tells = says; taken = taken }
 
   -- what was given is refused
   refused : (result : Status) → IsRefusalStatus result → (result ≡ status.Memory → ⊥) → (result ≡ status.SinkFault → ⊥) → (result ≡ status.FileFault → ⊥)
@@ -269,7 +270,8 @@ module _ (r : Rule) (W : Type 0) (sound : Sound r W) (before after : Outside) wh
       where
         go : (text : Text) → ComesTo r before.world after.world result text → after.world.bank.faults ≡ before.world.bank.faults
         go text (inl made) =
-            unrisen before.world.bank after.world.bank made.fault made.shown (λ meets. other (sound.answers made.found made.fault result text made.allowed made.puts meets))
+            unrisen (r.counted_from made.way) after.world.bank (r.course_of made.way) made.shown (λ meets. other (sound.answers made.found made.way after.world.bank result text made.allowed made.puts meets))
+            ∙ sound.counts made.way
         go text (inr (inl refuses)) = ap (λ (b : BankSeen). b.faults) refuses.same
         go text (inr (inr misses)) = ap (λ (b : BankSeen). b.faults) misses.same
 
@@ -286,7 +288,7 @@ module _ (r : Rule) (W : Type 0) (sound : Sound r W) (before after : Outside) wh
       go (inr (inl refuses)) = inr (inr (record { unopened = inl (refuses.refused, refuses.opened); same = refuses.same }))
       go (inr (inr misses)) = inr (inr (record { unopened = inr (inl (misses.file, misses.missed)); same = misses.same }))
       go (inl made) =
-          inl (record { found = made.found; opened = made.opened; fault = made.fault; allowed = made.allowed; shown = made.shown; holds = sound.holds made.found made.fault after.world.bank made.leaves })
+          inl (record { found = made.found; opened = made.opened; way = made.way; allowed = made.allowed; shown = made.shown; holds = sound.holds made.found made.way after.world.bank made.leaves })
 
   pub refused_of : (result : Status) → Runs r before after result → (x : Refusal) → IsRefused r before x → AnswersRefusal before after x result
   refused_of result (inl up) x is = inr (inr (inr up.status))
@@ -312,11 +314,12 @@ module _ (r : Rule) (W : Type 0) (sound : Sound r W) (before after : Outside) wh
       go (inr fails) = inr (inr (inl fails.status))
 
   module _ (is_command : W → ⊥) (quiet : IsQuiet before after) (good : NothingIsRefused r before) where
-    answered : (end : Status) (text : Text) (made : Makes r before.world after.world end text) → Means r W made.found made.fault end text → IsAnswer end
+    answered : (end : Status) (text : Text) (made : Makes r before.world after.world end text) → Means r W made.found made.way end text → IsAnswer end
     answered status.Ok text made means = inl refl
     answered status.No text made means = inr refl
     answered status.Words text made means = absurd (is_command means)
-    answered status.ModuleFault text made means = absurd (unrefused r.heading before.world.bank after.world.bank made.fault text quiet.bank made.shown means)
+    answered status.ModuleFault text made means = absurd (unrefused r.heading (r.counted_from made.way) after.world.bank (r.course_of made.way) text
+        (subst (λ (faults : List ℕ). (k : ℕ) → Rose (slice_index faults k) (slice_index after.world.bank.faults k) → ⊥) (sym (sound.counts made.way)) quiet.bank) made.shown means)
     answered _ text made means = absurd means
 
     is_told : (end : Status) → IsAnswer end → IsTold end

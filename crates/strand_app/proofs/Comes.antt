@@ -8,7 +8,7 @@ use Rattle.strand_modules.specs.Bank.{BankSeen}
 use Rattle.strand_modules.proofs.FrontWords.{keeps_same}
 use Rattle.strand_report.specs.declared.refusal.ContentFault.{ContentFault}
 use Rattle.strand_run.specs.Fault.{Course}
-use Rattle.strand_run.specs.Inputs.{Inputs}
+use Rattle.strand_again.specs.Inputs.{Inputs}
 use Rattle.strand_app.specs.declared.fetching.OpenFault.{OpenFault}
 use Rattle.strand_app.specs.declared.fetching.OpenFault.TheVariants.{Fetch, Refused, OutOfMemory}
 use Rattle.strand_app.specs.declared.status.Made.{Made}
@@ -48,7 +48,7 @@ refused_comes r view before after bank OutOfMemory (Err e) is answers = inr (inr
 pub still_comes : (Found : Type 0) (names : List (List ℕ)) (opens : Contents → Reads Found) (text_of : Found → Text) (before after : FilesSeen) (bank : BankSeen) (found : Found) (result : Result Made NoMemory)
     → Opened names opens before after (Ok found) → IfOk result (PutsOk (text_of found)) → Comes (still_rule Found names opens text_of bank) (world before bank) (world after bank) result
 still_comes Found names opens text_of before after bank found (Ok made) opened puts =
-    inl (record { found = found; opened = opened; fault = None; allowed = refl; shown = refl; kept = keeps_same bank; leaves = refl; puts = puts })
+    inl (record { found = found; opened = opened; way = None; allowed = refl; shown = refl; kept = keeps_same bank; leaves = refl; puts = puts })
 still_comes Found names opens text_of before after bank found (Err e) opened puts = inl (record { found = found; opened = opened; kept = keeps_same bank; leaves = refl })
 
 -- so for a command of one file
@@ -67,7 +67,7 @@ pub stepping_comes : (Found : Type 0) (inputs_of : Found → Inputs) (heading : 
     (before after : FilesSeen) (bank bank' : BankSeen) (found : Found) (result : Result Made NoMemory) → Opened names opens before after (Ok found) → MakesByCourse (inputs_of found) bank bank' (Puts found bank) result
     → Comes (stepping_rule Found inputs_of heading Puts MeansNo names opens bank) (world before bank) (world after bank') result
 stepping_comes Found inputs_of heading Puts MeansNo names opens before after bank bank' found (Ok made) opened puts =
-    inl (record { found = found; opened = opened; fault = Some puts.fault; allowed = puts.allowed; shown = puts.shown; kept = puts.kept; leaves = puts.leaves; puts = puts.puts })
+    inl (record { found = found; opened = opened; way = Some puts.fault; allowed = puts.allowed; shown = puts.shown; kept = puts.kept; leaves = puts.leaves; puts = puts.puts })
 stepping_comes Found inputs_of heading Puts MeansNo names opens before after bank bank' found (Err e) opened may = inl (record { found = found; opened = opened; kept = may.0; leaves = may.1 })
 
 pub machine_comes : (Found : Type 0) (inputs_of : Found → Inputs) (Whole : Found → BankSeen → Status → Text → Type 0) (MeansNo : Found → Text → Type 0) (names : List (List ℕ)) (opens : Contents → Reads Found)

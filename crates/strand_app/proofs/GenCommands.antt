@@ -8,7 +8,7 @@ use Rattle.strand_inputs.specs.declared.stop.Stop.TheVariants.{End}
 use Rattle.strand_modules.specs.Bank.{BankSeen}
 use Rattle.strand_modules.proofs.FrontWords.{keeps_same}
 use Rattle.strand_report.specs.declared.refusal.Refusal.{Refusal}
-use Rattle.strand_run.specs.Inputs.{Inputs}
+use Rattle.strand_again.specs.Inputs.{Inputs}
 use Rattle.strand_app.specs.declared.fetching.OpenFault.{OpenFault}
 use Rattle.strand_app.specs.declared.fetching.OpenFault.TheVariants.{Fetch, Refused, OutOfMemory}
 use Rattle.strand_app.specs.declared.opening.RunFiles.{RunFiles}

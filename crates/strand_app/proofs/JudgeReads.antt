@@ -6,7 +6,7 @@ use Rattle.strand_base.specs.FilesSeen.{FilesSeen}
 use Rattle.strand_inputs.specs.declared.stop.Stop.{Stop}
 use Rattle.strand_report.specs.declared.refusal.ContentFault.{ContentFault}
 use Rattle.strand_report.specs.declared.refusal.Refusal.{Refusal}
-use Rattle.strand_run.specs.Inputs.{Inputs}
+use Rattle.strand_again.specs.Inputs.{Inputs}
 use Rattle.strand_app.specs.Commands.Judge.{Question, crash_reads, judge_reads}
 use Rattle.strand_app.specs.Contents.{crash_in}
 use Rattle.strand_app.specs.Fetching.{FetchesOne, FetchGives}

@@ -9,12 +9,12 @@ use Rattle.strand_app.specs.Causes.{TellsRefusal}
 use Rattle.strand_app.specs.Rule.{Rule, Text}
 
 -- What each answer means that a rule puts, where the words are no command by W.
-abbrev pub Means : (r : Rule) → Type 0 → r.Found → Option Course → Status → Text → Type 0
-Means r W found f status.Ok text = Unit {0}
-Means r W found f status.No text = r.MeansNo found text
-Means r W found f status.Words text = W
-Means r W found f status.ModuleFault text = IsSomeAnd f (λ b. TellsRefusal r.heading b text)
-Means r W found f _ text = ⊥
+abbrev pub Means : (r : Rule) → Type 0 → r.Found → r.Way → Status → Text → Type 0
+Means r W found way status.Ok text = Unit {0}
+Means r W found way status.No text = r.MeansNo found text
+Means r W found way status.Words text = W
+Means r W found way status.ModuleFault text = IsSomeAnd (r.course_of way) (λ b. TellsRefusal r.heading b text)
+Means r W found way _ text = ⊥
 
 -- a module refused something
 abbrev pub MeetsRefusal : Option Course → Type 0
@@ -24,8 +24,10 @@ MeetsRefusal (Some (ran None None)) = ⊥
 MeetsRefusal (Some (ran (Some f) None)) = Unit {0}
 MeetsRefusal (Some (ran store (Some n))) = Unit {0}
 
-pub record Sound (r : Rule) (W : Type 0) : Type 0 where
-  pub means : (found : r.Found) (f : Option Course) (end : Status) (text : Text) → r.Puts found f end text → Means r W found f end text
-  pub answers : (found : r.Found) (f : Option Course) (end : Status) (text : Text) → r.Allows found f → r.Puts found f end text → MeetsRefusal f → end ≡ status.ModuleFault
-  pub holds : (found : r.Found) (f : Option Course) (after : BankSeen) → r.Leaves found f after → r.Holds found f after
+-- for a bank as it stands at entry
+pub record Sound (r : Rule) (before : BankSeen) (W : Type 0) : Type 0 where
+  pub means : (found : r.Found) (way : r.Way) (after : BankSeen) (end : Status) (text : Text) → r.Puts found way after end text → Means r W found way end text
+  pub answers : (found : r.Found) (way : r.Way) (after : BankSeen) (end : Status) (text : Text) → r.Allows found way → r.Puts found way after end text → MeetsRefusal (r.course_of way) → end ≡ status.ModuleFault
+  pub holds : (found : r.Found) (way : r.Way) (after : BankSeen) → r.Leaves found way after → r.Holds found way after
   pub may : (found : r.Found) (after : BankSeen) → r.MayLeave found after → r.MayHold found after
+  pub counts : (way : r.Way) → (r.counted_from way).faults ≡ before.faults

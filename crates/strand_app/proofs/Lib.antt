@@ -13,3 +13,8 @@ pub mod RuleLaws
 pub mod Clauses
 pub mod Afterwards
 pub mod Calls
+mod AgainWords
+mod AgainReads
+mod Going
+mod AgainSound
+mod AgainComes

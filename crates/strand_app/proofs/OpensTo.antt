@@ -1,6 +1,6 @@
 -- Serves clause runs of strand_main, for each command: files opened one after the other.
-use Rattle.std.proofs.Common.{◌≡◌, ℕ, zero, suc, ◌<◌, ◌≤◌, List, [], ◌∷◌, ◌++◌, length, length-append, refl, sym, ap, ◌∙◌, arith, inr, subst}
-use Rattle.std.specs.Prelude.{Some, Ok, Err, IfSome, slice_get}
+use Rattle.std.proofs.Common.{◌≡◌, ℕ, zero, suc, ◌+◌, ◌<◌, ◌≤◌, List, [], ◌∷◌, ◌++◌, length, length-append, refl, sym, ap, ◌∙◌, arith, inr, subst}
+use Rattle.std.specs.Prelude.{Some, Ok, Err, IfOk, IfSome, slice_get}
 use Rattle.std.specs.declared.option.Option.{Option}
 use Rattle.std.specs.declared.result.Result.{Result}
 use Rattle.std.proofs.lemmas.Option.{slice_get_within}
@@ -94,6 +94,26 @@ module _ {V W : Type 0} (rule : List ℕ → Result V ContentFault) (view : W �
   one_failed fault fetches =
       fails_next (name ∷ []) before before after [] name (first_none (name ∷ []) before) refl fetches.0 (file 1 rule) view 1 rule view refl (λ others. omega arith)
       (λ content refused is others. ap (λ (r : Result V Refusal). record { fetches = 1; result = r }) is) fault fetches
+
+-- what is decided of files that were read
+pub decides : {V W : Type 0} (names : List (List ℕ)) (reads : Contents → Reads V) (next : V → Reads W) (found : V) (before after : FilesSeen) (result : Result W Refusal) → next found ≡ record { fetches = 0; result = result }
+    → Opened names reads before after (Ok found) → Opened names (λ contents. then_reads (reads contents).fetches (reads contents).result next) before after result
+decides {V} {W} names reads next found before after result is opened = record {
+  contents = opened.contents;
+  says = record { first = opened.says.first; is = λ others. ap (λ (r : Reads V). then_reads r.fetches r.result next) (opened.says.is others) ∙ behind };
+  fetched = opened.fetched;
+  all = whole result;
+}
+  where
+    none : length opened.contents + 0 ≡ length opened.contents
+    none = omega arith
+
+    behind : ◌≡◌ {A = Reads W} (record { fetches = length opened.contents + (next found).fetches; result = (next found).result }) (record { fetches = length opened.contents; result = result })
+    behind = ap (λ (r : Reads W). record { fetches = length opened.contents + r.fetches; result = r.result }) is ∙ ap (λ (n : ℕ). record { fetches = n; result = result }) none
+
+    whole : (result : Result W Refusal) → IfOk result (λ _. length opened.contents ≡ length names)
+    whole (Ok decided) = opened.all
+    whole (Err refused) = tt
 
 -- the same first files among more names
 module _ (names more : List (List ℕ)) (before after : FilesSeen) (contents : Contents) where

@@ -15,13 +15,14 @@ use Rattle.strand_report.specs.Verdict.{verdict_text}
 use Rattle.strand_report.proofs.LastLine.{last_line}
 use Rattle.strand_rules.specs.declared.turn.StepFault.{StepFault}
 use Rattle.strand_run.specs.Fault.{Course, fill, ran}
-use Rattle.strand_run.specs.Inputs.{Inputs}
-use Rattle.strand_run.specs.Seen.{ReportsRun, visible_after, durable_after, view_after, store_fault}
+use Rattle.strand_again.specs.Inputs.{Inputs}
+use Rattle.strand_again.specs.Seen.{visible_after, durable_after}
+use Rattle.strand_run.specs.Seen.{ReportsRun, view_after, store_fault}
 use Rattle.strand_run.proofs.LeavesAllowed.{leaves_allowed, may_leave_allowed}
 use Rattle.strand_app.specs.declared.status.Status.{Status}
 use Rattle.strand_app.specs.declared.status.Status.TheVariants as status
 use Rattle.strand_app.specs.Causes.{EndsWith, TellsRefusal}
-use Rattle.strand_app.specs.Command.{Command, asm, list, upgrade, run, judge, refute, check, trace, gen, gen_image, gen_schedule}
+use Rattle.strand_app.specs.Command.{Command, asm, list, upgrade, run, judge, refute, check, trace, again, gen, gen_image, gen_schedule}
 use Rattle.strand_app.specs.Commands.Check.{Claim, PutsChecked, RejectsClaim, checked_text, checked_status}
 use Rattle.strand_app.specs.Commands.Gen.{PutsGen, PutsSummary, RefutesHeld, gen_reads, gen_rule}
 use Rattle.strand_app.specs.Commands.Judge.{Question, PutsVerdict, RefutesCrash, verdict_status}
@@ -34,26 +35,29 @@ use Rattle.strand_app.specs.Reads.{Contents, Reads}
 use Rattle.strand_app.specs.Rule.{Rule, Text}
 use Rattle.strand_app.specs.RuleOf.{rule_of}
 use Rattle.strand_app.specs.Still.{still_rule}
+use Rattle.strand_app.proofs.AgainSound.{again_sound}
 use Rattle.strand_app.proofs.Laws.{Means, MeetsRefusal, Sound}
 
 meets_none : (f : Option Course) → f ≡ None → MeetsRefusal f → ⊥
 meets_none None none meets = meets
 meets_none (Some b) none meets = cc
 
-no_command_sound : (before : BankSeen) (W : Type 0) → W → Sound (no_command before) W
+no_command_sound : (before : BankSeen) (W : Type 0) → W → Sound (no_command before) before W
 no_command_sound before W w = record {
-  means = λ found f end text puts. subst (λ (s : Status). Means (no_command before) W found f s text) (sym puts.0) w;
-  answers = λ found f end text allowed puts meets. absurd (meets_none f allowed meets);
+  means = λ found f after end text puts. subst (λ (s : Status). Means (no_command before) W found f s text) (sym puts.0) w;
+  answers = λ found f after end text allowed puts meets. absurd (meets_none f allowed meets);
   holds = λ found f after leaves. leaves;
   may = λ found after may. may;
+  counts = λ way. refl;
 }
 
-still_sound : (Found : Type 0) (names : List (List ℕ)) (opens : Contents → Reads Found) (text_of : Found → Text) (before : BankSeen) (W : Type 0) → Sound (still_rule Found names opens text_of before) W
+still_sound : (Found : Type 0) (names : List (List ℕ)) (opens : Contents → Reads Found) (text_of : Found → Text) (before : BankSeen) (W : Type 0) → Sound (still_rule Found names opens text_of before) before W
 still_sound Found names opens text_of before W = record {
-  means = λ found f end text puts. subst (λ (s : Status). Means (still_rule Found names opens text_of before) W found f s text) (sym puts.0) tt;
-  answers = λ found f end text allowed puts meets. absurd (meets_none f allowed meets);
+  means = λ found f after end text puts. subst (λ (s : Status). Means (still_rule Found names opens text_of before) W found f s text) (sym puts.0) tt;
+  answers = λ found f after end text allowed puts meets. absurd (meets_none f allowed meets);
   holds = λ found f after leaves. leaves;
   may = λ found after may. may;
+  counts = λ way. refl;
 }
 
 -- what each answer of a run means that met no refusal: it is ok, or a no with its refutation
@@ -76,16 +80,16 @@ module _ (Found : Type 0) (inputs_of : Found → Inputs) (heading : Text) (Puts 
   of_meant found b _ text is = absurd is
 
   stepping_sound : ((found : Found) (b : Course) (end : Status) (text : Text) → Puts found before b end text → Means r W found (Some b) end text)
-      → ((found : Found) (b : Course) (end : Status) (text : Text) → Puts found before b end text → MeetsRefusal (Some b) → end ≡ status.ModuleFault) → Sound r W
-  stepping_sound means answers = record { means = of_puts; answers = of_answers; holds = of_leaves; may = λ found after may. may_leave_allowed (inputs_of found) before after may }
+      → ((found : Found) (b : Course) (end : Status) (text : Text) → Puts found before b end text → MeetsRefusal (Some b) → end ≡ status.ModuleFault) → Sound r before W
+  stepping_sound means answers = record { means = of_puts; answers = of_answers; holds = of_leaves; may = λ found after may. may_leave_allowed (inputs_of found) before after may; counts = λ way. refl }
     where
-      of_answers : (found : Found) (f : Option Course) (end : Status) (text : Text) → r.Allows found f → r.Puts found f end text → MeetsRefusal f → end ≡ status.ModuleFault
-      of_answers found None end text allowed puts meets = absurd puts
-      of_answers found (Some b) end text allowed puts meets = answers found b end text puts meets
+      of_answers : (found : Found) (f : Option Course) (after : BankSeen) (end : Status) (text : Text) → r.Allows found f → r.Puts found f after end text → MeetsRefusal f → end ≡ status.ModuleFault
+      of_answers found None after end text allowed puts meets = absurd puts
+      of_answers found (Some b) after end text allowed puts meets = answers found b end text puts meets
 
-      of_puts : (found : Found) (f : Option Course) (end : Status) (text : Text) → r.Puts found f end text → Means r W found f end text
-      of_puts found None end text puts = absurd puts
-      of_puts found (Some b) end text puts = means found b end text puts
+      of_puts : (found : Found) (f : Option Course) (after : BankSeen) (end : Status) (text : Text) → r.Puts found f after end text → Means r W found f end text
+      of_puts found None after end text puts = absurd puts
+      of_puts found (Some b) after end text puts = means found b end text puts
 
       of_leaves : (found : Found) (f : Option Course) (after : BankSeen) → r.Leaves found f after → r.Holds found f after
       of_leaves found None after leaves = absurd leaves
@@ -116,7 +120,7 @@ module _ (Found : Type 0) (inputs_of : Found → Inputs) (Whole : Found → Bank
   of_answers found (ran (Some f) None) end text puts meets = puts.0
   of_answers found (ran None None) end text puts meets = absurd meets
 
-  machine_sound : Sound (machine_rule Found inputs_of Whole MeansNo names opens before) W
+  machine_sound : Sound (machine_rule Found inputs_of Whole MeansNo names opens before) before W
   machine_sound = stepping_sound Found inputs_of [] Puts MeansNo names opens before W of_run of_answers
 
 report_meant : (u : Inputs) (before : BankSeen) (end : Status) (text : Text) → PutsReport u before end text → Meant (λ t. ⊥) end text
@@ -186,7 +190,7 @@ gen_answers seed size before u (ran store (Some n)) end text puts meets = puts.0
 gen_answers seed size before u (ran (Some f) None) end text puts meets = puts.0
 gen_answers seed size before u (ran None None) end text puts meets = absurd meets
 
-pub sound_of : (command : Option Command) (before : BankSeen) → Sound (rule_of command before) (command ≡ None)
+pub sound_of : (command : Option Command) (before : BankSeen) → Sound (rule_of command before) before (command ≡ None)
 sound_of None before = no_command_sound before _ refl
 sound_of (Some (asm text)) before = still_sound _ _ _ _ before _
 sound_of (Some (list image)) before = still_sound _ _ _ _ before _
@@ -196,6 +200,7 @@ sound_of (Some (judge machine image schedule stop crash)) before = machine_sound
 sound_of (Some (refute machine image schedule stop crash)) before = machine_sound Question (λ q. q.run) (λ q bank. PutsRefutation q) AllowsCrash _ _ before _ refutation_meant
 sound_of (Some (check machine image schedule stop crash certificate)) before = machine_sound Claim (λ q. q.run) (λ q bank. PutsChecked q) RejectsClaim _ _ before _ checked_meant
 sound_of (Some (trace machine image schedule stop)) before = machine_sound Inputs (λ u. u) PutsTrace (λ u t. ⊥) _ _ before _ (λ u. trace_meant u before)
+sound_of (Some (again machine image pairs)) before = again_sound machine image pairs before _
 sound_of (Some (gen seed size)) before =
     stepping_sound Inputs (λ u. u) (gen_line seed size) (PutsGen seed size) (λ u. RefutesHeld seed size u before) [] (λ contents. gen_reads before.size seed size) before _ (gen_means seed size before _) (gen_answers seed size before)
 sound_of (Some (gen_image seed size)) before = still_sound _ _ _ _ before _

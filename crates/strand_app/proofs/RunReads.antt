@@ -8,13 +8,13 @@ use Rattle.strand_inputs.specs.declared.step.Step.{Step}
 use Rattle.strand_report.specs.declared.refusal.Refusal.{Refusal}
 use Rattle.strand_base.specs.FilesSeen.{FilesSeen}
 use Rattle.strand_inputs.specs.declared.stop.Stop.{Stop}
-use Rattle.strand_run.specs.Inputs.{Inputs, inputs}
+use Rattle.strand_again.specs.Inputs.{Inputs, inputs}
 use Rattle.strand_app.specs.Contents.{machine_in, image_in, schedule_in}
 use Rattle.strand_app.specs.Files.{WantsNext, Opened}
 use Rattle.strand_app.specs.Reads.{Contents, Reads, in_file, then_reads}
 use Rattle.strand_app.specs.RunFiles.{run_files, cut_off}
 use Rattle.strand_app.specs.Commands.Run.{run_reads}
-use Rattle.strand_app.proofs.OpensTo.{reads_more}
+use Rattle.strand_app.proofs.OpensTo.{decides, reads_more}
 
 pub one_more : {n m : ℕ} → 1 ≤ m → n < n + m
 one_more some = omega (arith, some)
@@ -47,19 +47,4 @@ module _ (c1 : List ℕ) (config : Settings) (e1 : machine_in c1 ≡ Ok config) 
 -- what is run of the files that were read
 pub cuts_off : (names : List (List ℕ)) (size : ℕ) (stop : Stop) (u : Inputs) (before after : FilesSeen) (result : Result Inputs Refusal) → cut_off size stop u ≡ record { fetches = 0; result = result }
     → Opened names run_files before after (Ok u) → Opened names (run_reads size stop) before after result
-cuts_off names size stop u before after result is opened = record {
-  contents = opened.contents;
-  says = record { first = opened.says.first; is = λ others. ap (λ (r : Reads Inputs). then_reads r.fetches r.result (cut_off size stop)) (opened.says.is others) ∙ behind };
-  fetched = opened.fetched;
-  all = whole result;
-}
-  where
-    none : length opened.contents + 0 ≡ length opened.contents
-    none = omega arith
-
-    behind : ◌≡◌ {A = Reads Inputs} (record { fetches = length opened.contents + (cut_off size stop u).fetches; result = (cut_off size stop u).result }) (record { fetches = length opened.contents; result = result })
-    behind = ap (λ (r : Reads Inputs). record { fetches = length opened.contents + r.fetches; result = r.result }) is ∙ ap (λ (n : ℕ). record { fetches = n; result = result }) none
-
-    whole : (result : Result Inputs Refusal) → IfOk result (λ _. length opened.contents ≡ length names)
-    whole (Ok cut) = opened.all
-    whole (Err refused) = tt
+cuts_off names size stop u before after result is opened = decides names run_files (cut_off size stop) u before after result is opened

@@ -16,11 +16,12 @@ use Rattle.strand_rules.specs.declared.turn.StepFault.{StepFault}
 use Rattle.strand_rules.specs.Machine.{program_of, start_of}
 use Rattle.strand_rules.specs.Run.{CanFail}
 use Rattle.strand_run.specs.Fault.{Course, fill, ran}
-use Rattle.strand_run.specs.Inputs.{Inputs}
+use Rattle.strand_again.specs.Inputs.{Inputs}
 use Rattle.strand_run.specs.Outcome.{Allows, Leaves, MayLeave, RunsTo, TellsRun, view_of}
-use Rattle.strand_run.specs.Seen.{Reports, ReportsRun, visible_after}
-use Rattle.strand_run.specs.Stepping.{steps_made}
-use Rattle.strand_run.specs.declared.running.Run.{Run}
+use Rattle.strand_again.specs.Seen.{visible_after}
+use Rattle.strand_run.specs.Seen.{Reports, ReportsRun}
+use Rattle.strand_again.specs.Stepping.{steps_made}
+use Rattle.strand_again.specs.declared.running.Ran.{Ran as Run}
 use Rattle.strand_run.specs.declared.running.RunEnd.{RunEnd}
 use Rattle.strand_run.specs.declared.running.RunEnd.TheVariants.{Told}
 use Rattle.strand_run.proofs.RunImage.{may_after}
@@ -43,19 +44,14 @@ use Rattle.strand_app.specs.Opening.{inputs_of}
 use Rattle.strand_app.specs.Rule.{Text}
 use Rattle.strand_app.specs.Running.{RunsOnBank, PutsOnBank, MakesOnBank}
 
--- the steps up to a refused store are steps of the run
-step_within : (count : ℕ) (u : Inputs) (store : Option StepFault) → IfSome store (CanFail u.config (program_of u.image) (start_of u.image) u.steps count) → IfSome store (λ f. f.step - 1 ≤ length u.steps)
-step_within count u None can = tt
-step_within count u (Some f) can = omega (arith, slice_get_within u.steps (f.step - 1) can.step can.there)
-
 -- where no memory is left for the answer, the bank is one that may be left
 pub may_leave : (u : Inputs) (count : ℕ) (fault : Course) (before after : BankSeen) → Allows count u fault → Leaves u fault before after → MayLeave u before after
 may_leave u count (fill m) before after allowed leaves = record {
   stands = inr (inl (leaves.0, leaves.2));
   accepted = record { stores = leaves.0; reads = 0; few_stores = omega (arith, leaves.2.0); few_reads = omega arith; accepts = leaves.3 };
 }
-may_leave u count (ran store None) before after allowed leaves = may_after u store (length u.image.persistent) before after (step_within count u store allowed.0) (omega arith) leaves
-may_leave u count (ran store (Some n)) before after allowed leaves = may_after u store leaves.0 before after (step_within count u store allowed.0) (omega (arith, leaves.1)) leaves.3
+may_leave u count (ran store None) before after allowed leaves = may_after u count store (length u.image.persistent) before after allowed.0 (omega arith) leaves
+may_leave u count (ran store (Some n)) before after allowed leaves = may_after u count store leaves.0 before after allowed.0 (omega (arith, leaves.1)) leaves.3
 
 -- the report of a run that was told is the visible run's
 pub reports_run : (u : Inputs) (before : BankSeen) (r : Run) (text : Text) → TellsRun u before r → Reports u.config.mode (view_of r) text → ReportsRun u (steps_made r.fault u.steps) before r.fault text

@@ -13,12 +13,13 @@ use Rattle.strand_report.specs.declared.module_fault.ModuleFault.{ModuleFault}
 use Rattle.strand_report.specs.declared.summary.Summary.{Summary}
 use Rattle.strand_rules.specs.declared.turn.StepFault.{StepFault}
 use Rattle.strand_run.specs.Fault.{Course, ran}
-use Rattle.strand_run.specs.Inputs.{Inputs}
+use Rattle.strand_again.specs.Inputs.{Inputs}
 use Rattle.strand_run.specs.Outcome.{IsEnd, Leaves, RunsTo, view_of}
-use Rattle.strand_run.specs.Seen.{AreHeld, durable_after, fill_fault, image_after, read_fault, store_fault, view_after, visible_after}
-use Rattle.strand_run.specs.Stepping.{steps_made}
+use Rattle.strand_again.specs.Seen.{AreHeld, durable_after, image_after, visible_after}
+use Rattle.strand_run.specs.Seen.{fill_fault, read_fault, store_fault, view_after}
+use Rattle.strand_again.specs.Stepping.{steps_made}
 use Rattle.strand_run.specs.Summed.{Sums}
-use Rattle.strand_run.specs.declared.running.Run.{Run}
+use Rattle.strand_again.specs.declared.running.Ran.{Ran as Run}
 use Rattle.strand_run.specs.declared.running.RunEnd.{RunEnd}
 use Rattle.strand_run.specs.declared.running.RunEnd.TheVariants.{FillRefused, ReadRefused, Told}
 use Rattle.strand_run.proofs.LeavesAllowed.{leaves_allowed}

@@ -19,14 +19,14 @@ module _ (r : Rule) (before after : World) where
   abbrev pub IsAsAtEntry : Type 0
   IsAsAtEntry = after.bank ≡ before.bank
 
-  -- It is as such a course of the run leaves it, which it shows.
+  -- It is as a way of such a course leaves it, which it shows.
   pub record LeftBy (Such : Option Course → Type 0) : Type 0 where
     pub found : r.Found
     pub opened : Opened r.names r.opens before.files after.files (Ok found)
-    pub course : Option Course
-    pub such : Such course
-    pub shown : ShownBy before.bank after.bank course
-    pub leaves : r.Leaves found course after.bank
+    pub way : r.Way
+    pub such : Such (r.course_of way)
+    pub shown : ShownBy (r.counted_from way) after.bank (r.course_of way)
+    pub leaves : r.Leaves found way after.bank
 
   -- It is as want of memory behind the files may leave it.
   pub record LeftAtWant : Type 0 where

@@ -48,11 +48,13 @@ module _ (r : Rule) (before after : Outside) where
   pub record ModuleCause : Type 0 where
     pub found : r.Found
     pub opened : Opened r.names r.opens before.world.files after.world.files (Ok found)
-    pub fault : Course
-    pub allowed : r.Allows found (Some fault)
-    pub shown : ShownByBank before.world.bank after.world.bank fault
+    pub way : r.Way
+    pub allowed : r.Allows found way
+    pub course : Course
+    pub taken_is : r.course_of way ≡ Some course
+    pub shown : ShownByBank (r.counted_from way) after.world.bank course
     pub text : Text
-    pub tells : TellsRefusal r.heading fault text
+    pub tells : TellsRefusal r.heading course text
     pub taken : Takes before.sink.taken after.sink.taken text
 
   -- The sink's count of faults rose, and a proper front of the command's text was taken.

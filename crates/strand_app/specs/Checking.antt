@@ -3,7 +3,7 @@ use Rattle.std.specs.Prelude.{◌≡◌, ℕ, length}
 use Rattle.strand_judge.specs.Words.{crash_of}
 use Rattle.strand_refute.specs.Checked.{IsChecked, SaysAccepted}
 use Rattle.strand_refute.specs.declared.checking.Checked.{Checked}
-use Rattle.strand_run.specs.declared.running.Run.{Run}
+use Rattle.strand_again.specs.declared.running.Ran.{Ran as Run}
 use Rattle.strand_run.specs.Outcome.{view_of}
 use Rattle.strand_app.specs.declared.commands.check.Claim.{Claim as CodeClaim}
 use Rattle.strand_app.specs.declared.status.Made.{Made}

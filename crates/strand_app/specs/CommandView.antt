@@ -1,12 +1,17 @@
 -- The code's command, as the definitions have it.
-use Rattle.std.specs.Prelude.{ℕ, List, map, String, string_bytes}
+use Rattle.std.specs.Prelude.{ℕ, List, [], ◌∷◌, map, String, string_bytes}
+use Rattle.std.specs.Option.{unwrap_or}
 use Rattle.std.specs.declared.alloc.Global.{Global}
 use Rattle.std.specs.declared.option.Option.{Option}
+use Rattle.strand_inputs.specs.Stop.{stop_of}
+use Rattle.strand_inputs.specs.declared.stop.Stop.TheVariants.{End}
 use Rattle.strand_modules.specs.Bank.{BankSeen}
 use Rattle.strand_app.specs.declared.command.Command.{Command as CodeCommand}
 use Rattle.strand_app.specs.declared.command.Command.TheVariants as code
 use Rattle.strand_app.specs.declared.command.RunWords.{RunWords}
-use Rattle.strand_app.specs.Command.{Command, command_of, asm, list, upgrade, run, judge, refute, check, trace, gen, gen_image, gen_schedule}
+use Rattle.strand_app.specs.declared.again_words.AgainWords.{AgainWords}
+use Rattle.strand_app.specs.Command.{Command, Pair, command_of, asm, list, upgrade, run, judge, refute, check, trace, again, gen, gen_image, gen_schedule}
+use Rattle.strand_app.specs.Commands.Again.{again_rule}
 use Rattle.strand_app.specs.Commands.Check.{check_rule}
 use Rattle.strand_app.specs.Commands.Judge.{judge_rule}
 use Rattle.strand_app.specs.Commands.Refute.{refute_rule}
@@ -14,6 +19,14 @@ use Rattle.strand_app.specs.Commands.Run.{run_rule}
 use Rattle.strand_app.specs.Commands.Trace.{trace_rule}
 use Rattle.strand_app.specs.Rule.{Rule}
 use Rattle.strand_app.specs.RuleOf.{rule_of}
+
+-- the pairs that words are whose every second one is a stop
+abbrev pub pairs_in : List (List ℕ) → List Pair
+pairs_in (schedule ∷ stop ∷ words) = record { schedule = schedule; stop = unwrap_or (stop_of stop) End } ∷ pairs_in words
+pairs_in _ = []
+
+abbrev pub pairs_asked : List (String Global) → List Pair
+pairs_asked words = pairs_in (map string_bytes words)
 
 abbrev pub view : CodeCommand → Command
 view (code.Asm text) = asm text.now
@@ -24,6 +37,7 @@ view (code.Judge words crash) = judge words.machine.now words.image.now words.sc
 view (code.Refute words crash) = refute words.machine.now words.image.now words.schedule.now words.stop crash.now
 view (code.Check words crash certificate) = check words.machine.now words.image.now words.schedule.now words.stop crash.now certificate.now
 view (code.Trace words) = trace words.machine.now words.image.now words.schedule.now words.stop
+view (code.Again words) = again words.machine.now words.image.now (pairs_asked words.pairs.now)
 view (code.Gen seed size) = gen seed size
 view (code.GenImage seed size) = gen_image seed size
 view (code.GenSchedule seed size) = gen_schedule seed size
@@ -43,6 +57,9 @@ check_rule_in words crash certificate = check_rule words.machine.now words.image
 
 abbrev pub trace_rule_in : RunWords → BankSeen → Rule
 trace_rule_in words = trace_rule words.machine.now words.image.now words.schedule.now words.stop
+
+abbrev pub again_rule_in : AgainWords → BankSeen → Rule
+again_rule_in words = again_rule words.machine.now words.image.now (pairs_asked words.pairs.now)
 
 -- the command that the words are
 abbrev pub command_asked : List (String Global) → Option Command

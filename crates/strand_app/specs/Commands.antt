@@ -1,3 +1,4 @@
+pub mod Again
 pub mod Asm
 pub mod List
 pub mod Run

@@ -3,7 +3,7 @@ use Rattle.std.specs.Prelude.{◌≡◌, ℕ, Ok, Err}
 use Rattle.std.specs.declared.result.Result.{Result}
 use Rattle.strand_inputs.specs.declared.stop.Stop.{Stop}
 use Rattle.strand_report.specs.declared.refusal.Refusal.{Refusal}
-use Rattle.strand_run.specs.Inputs.{Inputs}
+use Rattle.strand_again.specs.Inputs.{Inputs}
 use Rattle.strand_app.specs.declared.opening.Setup.{Setup}
 use Rattle.strand_app.specs.Opening.{inputs_of}
 use Rattle.strand_app.specs.RunFiles.{cut_off}

@@ -6,7 +6,7 @@ use Rattle.strand_gen.specs.Inputs.{generated_machine, generated_schedule}
 use Rattle.strand_gen.specs.Program.{generated_image}
 use Rattle.strand_report.specs.declared.refusal.Refusal.{Refusal}
 use Rattle.strand_report.specs.declared.refusal.Refusal.TheVariants as refusal
-use Rattle.strand_run.specs.Inputs.{Inputs, inputs}
+use Rattle.strand_again.specs.Inputs.{Inputs, inputs}
 use Rattle.strand_app.specs.declared.fetching.OpenFault.{OpenFault}
 use Rattle.strand_app.specs.declared.fetching.OpenFault.TheVariants.{Fetch, Refused, OutOfMemory}
 use Rattle.strand_app.specs.Reads.{Reads}

@@ -4,7 +4,7 @@ use Rattle.strand_judge.specs.Verdicts.{IsVerdict}
 use Rattle.strand_judge.specs.Words.{crash_of}
 use Rattle.strand_judge.specs.declared.verdict.Verdict.{Verdict}
 use Rattle.strand_report.specs.Verdict.{verdict_text}
-use Rattle.strand_run.specs.declared.running.Run.{Run}
+use Rattle.strand_again.specs.declared.running.Ran.{Ran as Run}
 use Rattle.strand_run.specs.Outcome.{view_of}
 use Rattle.strand_app.specs.declared.commands.judge.Question.{Question as CodeQuestion}
 use Rattle.strand_app.specs.declared.status.Made.{Made}

@@ -27,4 +27,6 @@ pub mod Judging
 pub mod Refuting
 pub mod Checking
 pub mod Summing
+pub mod AgainOnBank
 pub mod CommandView
+pub mod AgainOpening

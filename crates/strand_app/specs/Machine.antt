@@ -1,10 +1,11 @@
 -- The rules of commands that step a machine.
 use Rattle.std.specs.Prelude.{◌≡◌, ℕ, ◌-◌, List, [], length, take, Some, None, IsSomeAnd}
+use Rattle.std.specs.declared.option.Option.{Option}
 use Rattle.strand_modules.specs.Bank.{BankSeen}
 use Rattle.strand_report.specs.FaultLines.{module_fault_line}
 use Rattle.strand_run.specs.Allowed.{LeavesAllowed, MayLeaveAllowed}
 use Rattle.strand_run.specs.Fault.{Course, fill, ran}
-use Rattle.strand_run.specs.Inputs.{Inputs}
+use Rattle.strand_again.specs.Inputs.{Inputs}
 use Rattle.strand_run.specs.Outcome.{Allows, Leaves, MayLeave}
 use Rattle.strand_run.specs.Seen.{ReportsRun, fill_fault, read_fault}
 use Rattle.strand_app.specs.declared.status.Status.{Status}
@@ -25,12 +26,15 @@ stepping_rule Found inputs_of heading Puts MeansNo names opens before = record {
   names = names;
   Found = Found;
   opens = opens;
-  Allows = λ found fault. IsSomeAnd fault (Allows (length before.faults) (inputs_of found));
-  Puts = λ found fault end text. IsSomeAnd fault (λ b. Puts found before b end text);
+  Way = Option Course;
+  course_of = λ way. way;
+  counted_from = λ way. before;
+  Allows = λ found way. IsSomeAnd way (Allows (length before.faults) (inputs_of found));
+  Puts = λ found way after end text. IsSomeAnd way (λ b. Puts found before b end text);
   heading = heading;
-  Leaves = λ found fault after. IsSomeAnd fault (λ b. Leaves (inputs_of found) b before after);
+  Leaves = λ found way after. IsSomeAnd way (λ b. Leaves (inputs_of found) b before after);
   MayLeave = λ found after. MayLeave (inputs_of found) before after;
-  Holds = λ found fault after. IsSomeAnd fault (λ b. LeavesAllowed (inputs_of found) b before after);
+  Holds = λ found way after. IsSomeAnd way (λ b. LeavesAllowed (inputs_of found) b before after);
   MayHold = λ found after. MayLeaveAllowed (inputs_of found) before after;
   MeansNo = MeansNo;
 }

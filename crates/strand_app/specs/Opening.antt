@@ -10,7 +10,7 @@ use Rattle.strand_inputs.specs.declared.fault.InputFault.TheVariants as input
 use Rattle.strand_report.specs.declared.refusal.ContentFault.{ContentFault}
 use Rattle.strand_report.specs.declared.refusal.ContentFault.TheVariants as content
 use Rattle.strand_report.specs.declared.refusal.Refusal.TheVariants as refusal
-use Rattle.strand_run.specs.Inputs.{Inputs, inputs}
+use Rattle.strand_again.specs.Inputs.{Inputs, inputs}
 use Rattle.strand_app.specs.declared.command.RunWords.{RunWords}
 use Rattle.strand_app.specs.declared.fetching.OpenFault.{OpenFault}
 use Rattle.strand_app.specs.declared.fetching.OpenFault.TheVariants.{Fetch, Refused, OutOfMemory}

@@ -1,6 +1,6 @@
 -- What the code knows of a refutation.
 use Rattle.strand_judge.specs.Words.{crash_of}
-use Rattle.strand_run.specs.declared.running.Run.{Run}
+use Rattle.strand_again.specs.declared.running.Ran.{Ran as Run}
 use Rattle.strand_run.specs.Outcome.{view_of}
 use Rattle.strand_app.specs.declared.commands.judge.Question.{Question as CodeQuestion}
 use Rattle.strand_app.specs.declared.status.Made.{Made}

@@ -6,7 +6,7 @@ use Rattle.strand_inputs.specs.declared.stop.Stop.{Stop}
 use Rattle.strand_inputs.specs.declared.stop.StopPast.{StopPast}
 use Rattle.strand_report.specs.declared.refusal.Refusal.{Refusal}
 use Rattle.strand_report.specs.declared.refusal.Refusal.TheVariants as refusal
-use Rattle.strand_run.specs.Inputs.{Inputs, inputs}
+use Rattle.strand_again.specs.Inputs.{Inputs, inputs}
 use Rattle.strand_app.specs.Contents.{machine_in, image_in, schedule_in}
 use Rattle.strand_app.specs.Reads.{Contents, Reads, file, decided, given, ◌>>=◌}
 

@@ -4,7 +4,7 @@ use Rattle.std.specs.declared.result.Result.{Result}
 use Rattle.strand_base.specs.declared.out_of_memory.OutOfMemory.{OutOfMemory}
 use Rattle.strand_modules.specs.Bank.{BankSeen, Keeps}
 use Rattle.strand_run.specs.Fault.{Course, ran, ShownByBank}
-use Rattle.strand_run.specs.Inputs.{Inputs}
+use Rattle.strand_again.specs.Inputs.{Inputs}
 use Rattle.strand_run.specs.Outcome.{Allows, Leaves, MayLeave, TellsRun}
 use Rattle.strand_app.specs.declared.running.Ran.{Ran}
 use Rattle.strand_app.specs.declared.running.Ran.TheVariants.{Whole, Refused}

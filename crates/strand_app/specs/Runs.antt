@@ -1,13 +1,11 @@
 -- The whole call, by the rule of its command.
 use Rattle.std.specs.Prelude.{◌≡◌, ◌⊎◌, ℕ, Ok, Err}
-use Rattle.std.specs.declared.option.Option.{Option}
 use Rattle.std.specs.declared.result.Result.{Result}
 use Rattle.strand_base.specs.declared.out_of_memory.OutOfMemory.{OutOfMemory}
 use Rattle.strand_modules.specs.Bank.{Keeps}
 use Rattle.strand_report.specs.FaultLines.{file_fault}
 use Rattle.strand_report.specs.Refusals.{refusal_line}
 use Rattle.strand_report.specs.declared.refusal.Refusal.{Refusal}
-use Rattle.strand_run.specs.Fault.{Course}
 use Rattle.strand_app.specs.declared.status.Made.{Made}
 use Rattle.strand_app.specs.declared.status.Status.{Status}
 use Rattle.strand_app.specs.declared.status.Status.TheVariants as status
@@ -18,16 +16,16 @@ use Rattle.strand_app.specs.Rule.{Rule, Text, ShownBy}
 use Rattle.strand_app.specs.World.{World, Outside}
 
 module _ (r : Rule) (before after : World) where
-  -- The files were not refused: the run took one course that it may take, and a text was made of it.
+  -- The files were not refused: the call went one way that it may go, and a text was made of it.
   pub record Makes (end : Status) (text : Text) : Type 0 where
     pub found : r.Found
     pub opened : Opened r.names r.opens before.files after.files (Ok found)
-    pub fault : Option Course
-    pub allowed : r.Allows found fault
-    pub shown : ShownBy before.bank after.bank fault
+    pub way : r.Way
+    pub allowed : r.Allows found way
+    pub shown : ShownBy (r.counted_from way) after.bank (r.course_of way)
     pub kept : Keeps before.bank after.bank
-    pub leaves : r.Leaves found fault after.bank
-    pub puts : r.Puts found fault end text
+    pub leaves : r.Leaves found way after.bank
+    pub puts : r.Puts found way after.bank end text
 
   -- What was given is refused, and the bank wasn't touched.
   pub record RefusesInput (end : Status) (text : Text) : Type 0 where

@@ -4,7 +4,7 @@ use Rattle.strand_report.specs.Summary.{gen_line, summary_text}
 use Rattle.strand_report.specs.declared.summary.Summary.{Summary}
 use Rattle.strand_run.specs.Outcome.{view_of}
 use Rattle.strand_run.specs.Summed.{Sums}
-use Rattle.strand_run.specs.declared.running.Run.{Run}
+use Rattle.strand_again.specs.declared.running.Ran.{Ran as Run}
 use Rattle.strand_app.specs.declared.opening.Setup.{Setup}
 use Rattle.strand_app.specs.declared.status.Made.{Made}
 use Rattle.strand_app.specs.Commands.Judge.{verdict_status}

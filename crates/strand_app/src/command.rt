@@ -1,9 +1,11 @@
-ghost use Rattle.std.specs.Prelude.{◌≡◌};
-ghost use Rattle.std.specs.Option.{option_map};
+ghost use Rattle.std.specs.Prelude.{◌≡◌, map, string_bytes};
+ghost use Rattle.std.specs.Option.{is_some, option_map};
+ghost use Rattle.strand_app.specs.Command.{generations, other_command, pairs_of};
 ghost use Rattle.strand_app.specs.Command.{one_file, two_numbers, three_files, four_files, five_files};
 ghost use Rattle.strand_app.specs.CommandView.{command_asked, view};
 ghost use Rattle.strand_inputs.specs.Machine.{decimal_in};
 
+use crate::again_words::{AgainWords, MOST_GENERATIONS};
 use strand_base::read_decimal;
 use strand_inputs::{Stop, read_stop};
 
@@ -46,6 +48,10 @@ pub enum Command<'a> {
     Trace {
         words: RunWords<'a>,
     },
+    /// `again MACHINE IMAGE SCHEDULE STOP..`: generations of crashes.
+    Again {
+        words: AgainWords<'a>,
+    },
     /// `gen SEED SIZE`: the summary of a generated run.
     Gen {
         seed: u64,
@@ -70,6 +76,38 @@ pub struct RunWords<'a> {
     pub image: &'a str,
     pub schedule: &'a str,
     pub stop: Stop,
+}
+
+// Each second word is a stop, and there are as many of them as of the others.
+fn are_pairs(mut words: &[String]) -> bool
+    ensures { result ≡ is_some (pairs_of (map string_bytes words.entry.now)) }
+{
+    while let [_, stop, rest @ ..] = words {
+        if read_stop(stop.as_str()).is_none() {
+            return false;
+        }
+        words = rest;
+    }
+    words.is_empty()
+}
+
+// A command of generations.
+fn generations(words: &[String]) -> Option<Command<'_>>
+    ensures { option_map view result ≡ generations (map string_bytes words.now) }
+{
+    let [machine, image, pairs @ ..] = words else {
+        return None;
+    };
+    let few = 2 <= pairs.len() && pairs.len() <= 2 * MOST_GENERATIONS;
+    if !few || !are_pairs(pairs) {
+        return None;
+    }
+    let words = AgainWords {
+        machine: machine.as_str(),
+        image: image.as_str(),
+        pairs,
+    };
+    Some(Command::Again { words })
 }
 
 // A command of one file.
@@ -183,9 +221,9 @@ fn five_files<'a>(
     }
 }
 
-/// The command that the words are. It takes no memory.
-pub fn read_command(words: &[String]) -> Option<Command<'_>>
-    ensures { option_map view result ≡ command_asked words.now }
+// Any other command.
+fn other_command(words: &[String]) -> Option<Command<'_>>
+    ensures { option_map view result ≡ other_command (map string_bytes words.now) }
 {
     match words {
         [word, file] => one_file(word.as_str(), file.as_str()),
@@ -225,5 +263,15 @@ pub fn read_command(words: &[String]) -> Option<Command<'_>>
             five_files(word.as_str(), words, crash.as_str(), certificate.as_str())
         }
         _ => None,
+    }
+}
+
+/// The command that the words are. It takes no memory.
+pub fn read_command(words: &[String]) -> Option<Command<'_>>
+    ensures { option_map view result ≡ command_asked words.now }
+{
+    match words {
+        [word, rest @ ..] if word.as_str() == "again" => generations(rest),
+        _ => other_command(words),
     }
 }

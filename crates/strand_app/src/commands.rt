@@ -1,3 +1,4 @@
+pub mod again;
 pub mod asm;
 pub mod check;
 pub mod gen_image;

@@ -79,34 +79,36 @@ pub fn fetch_image<F: Files>(
 
 fn schedule_of(
     alloc: Global,
+    file: u32,
     config: &Config,
     image: &Image,
     bytes: &[u8],
 ) -> Result<Schedule, OpenFault>
     requires { length bytes.now ≤ MOST_FILE_BYTES }
-    ensures says { IsSaid 3 (λ steps. steps) (schedule_in config.now image.now bytes.now) result }
+    ensures says { IsSaid file (λ steps. steps) (schedule_in config.now image.now bytes.now) result }
     ensures below { IfOk result (All (IsBelow (length image.now.entries) config.now.buffers)) }
 {
     match read_schedule(alloc, bytes, image.entries().len() as u32, config.buffers) {
         Ok(schedule) => Ok(schedule),
-        Err(fault) => Err(open_fault(3, ContentFault::Input(fault))),
+        Err(fault) => Err(open_fault(file, ContentFault::Input(fault))),
     }
 }
 
-/// The steps of a schedule for the image's cores and the machine's buffers, file 3 of its command.
+/// The steps of a schedule for the image's cores and the machine's buffers, of a file of this number.
 pub fn fetch_schedule<F: Files>(
     alloc: Global,
+    file: u32,
     config: &Config,
     image: &Image,
     name: &str,
     files: &mut F,
 ) -> Result<Schedule, OpenFault>
-    ensures says { FetchesFile 3 (schedule_in config.now image.now) (λ steps. steps) name.now
+    ensures says { FetchesFile file (schedule_in config.now image.now) (λ steps. steps) name.now
         (F.seen files.old) (F.seen files.new) result }
     ensures below { IfOk result (All (IsBelow (length image.now.entries) config.now.buffers)) }
 {
-    let bytes = fetch(alloc, 3, name, MOST_FILE_BYTES, files)?;
-    schedule_of(alloc, config, image, &bytes)
+    let bytes = fetch(alloc, file, name, MOST_FILE_BYTES, files)?;
+    schedule_of(alloc, file, config, image, &bytes)
 }
 
 fn crash_of(alloc: Global, image: &Image, bytes: &[u8]) -> Result<Words, OpenFault>

@@ -3,7 +3,7 @@ ghost use Rattle.strand_app.specs.Fetching.{FetchesBytes};
 ghost use Rattle.strand_app.specs.declared.fetching.OpenFault.TheVariants.{OutOfMemory, Refused};
 
 use std::alloc::{AllocFailed, Global};
-use strand_base::{FetchFault, Files};
+use strand_base::{FetchFault, Files, OutOfMemory as NoMemory};
 use strand_report::{ContentFault, Refusal};
 
 /// Why it is not known what a command's files say.
@@ -14,6 +14,14 @@ pub enum OpenFault {
     /// What was given is refused.
     Refused(Refusal),
     OutOfMemory,
+}
+
+impl From<NoMemory> for OpenFault {
+    ghost from_gives = { λ _ e. e ≡ OutOfMemory };
+
+    fn from(_: NoMemory) -> Self {
+        OpenFault::OutOfMemory
+    }
 }
 
 impl From<Refusal> for OpenFault {

@@ -1,6 +1,6 @@
-ghost use Rattle.std.specs.Prelude.{◌≡◌, IfOk};
+ghost use Rattle.std.specs.Prelude.{◌≡◌, ◌≤◌, IfOk, length};
 ghost use Rattle.strand_app.specs.Opening.{AreStepsBelow, IsReady, OpensTo, all_inputs, inputs_of, names_of};
-ghost use Rattle.strand_app.specs.RunFiles.{run_files, cut_off};
+ghost use Rattle.strand_app.specs.RunFiles.{bank_holds, cut_off, run_files};
 ghost use Rattle.strand_app.specs.CutOff.{IsCutOff};
 ghost use Rattle.strand_app.specs.Commands.Run.{run_reads};
 
@@ -50,7 +50,7 @@ pub fn open_run_files<F: Files>(
 {
     let config = fetch_machine(alloc, words.machine, files)?;
     let image = fetch_image(alloc, 2, words.image, files)?;
-    let schedule = fetch_schedule(alloc, &config, &image, words.schedule, files)?;
+    let schedule = fetch_schedule(alloc, 3, &config, &image, words.schedule, files)?;
     Ok(RunFiles {
         config,
         image,
@@ -69,11 +69,20 @@ pub fn cut_off(files: RunFiles, stop: Stop, size: u64) -> Result<Setup, Refusal>
         Ok(stop) => stop,
         Err(past) => return Err(Refusal::Stop(past)),
     };
-    let need = files.image.persistent().len() as u64;
+    check_room(&files.image, size)?;
+    Ok(Setup { files, stop })
+}
+
+/// That a bank of so many words has room for an image.
+pub fn check_room(image: &Image, size: u64) -> Result<(), Refusal>
+    ensures room { result ≡ bank_holds size (length image.now.persistent) }
+    ensures fits { IfOk result (λ _. length image.now.persistent ≤ size) }
+{
+    let need = image.persistent().len() as u64;
     if need > size {
         return Err(Refusal::Bank { need, have: size });
     }
-    Ok(Setup { files, stop })
+    Ok(())
 }
 
 /// What is run of the files of a run, up to this stop on a bank of so many words.

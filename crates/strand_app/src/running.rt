@@ -9,10 +9,11 @@ ghost use Rattle.strand_run.specs.Outcome.{MayLeave, RunsTo};
 use crate::opening::Setup;
 use crate::status::{Made, Status};
 use std::alloc::Global;
+use strand_again::Ran as Run;
 use strand_base::OutOfMemory;
 use strand_modules::ModuleBank;
 use strand_report::{ModuleFault, ModulePhase, write_module_fault};
-use strand_run::{Run, RunEnd, report, run_image};
+use strand_run::{RunEnd, report, run_image};
 
 /// What came of a run on the bank.
 #[derive(Drop)]

@@ -15,6 +15,7 @@ ghost use Rattle.strand_report.specs.FaultLines.{words_fault};
 ghost use Rattle.strand_report.specs.declared.refusal.Refusal.{Refusal};
 
 use crate::command::{Command, read_command};
+use crate::commands::again::tell_generations;
 use crate::commands::asm::asm_text;
 use crate::commands::check::check_claim;
 use crate::commands::gen_image::image_generated;
@@ -169,6 +170,7 @@ fn make<F: Files>(
             certificate,
         } => check_claim(alloc, words, crash, certificate, files, bank),
         Command::Trace { words } => trace_run(alloc, words, files, bank),
+        Command::Again { words } => tell_generations(alloc, words, files, bank),
         Command::Gen { seed, size } => judge_generated(alloc, seed, size, bank),
         Command::GenImage { seed, size } => image_generated(alloc, seed, size),
         Command::GenSchedule { seed, size } => schedule_generated(alloc, seed, size),

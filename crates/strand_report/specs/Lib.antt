@@ -3,6 +3,7 @@ pub mod Caches
 pub mod Cores
 pub mod FaultLines
 pub mod Fields
+pub mod Generation
 pub mod Numbered
 pub mod Outs
 pub mod Persists

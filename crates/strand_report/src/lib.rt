@@ -8,6 +8,7 @@ mod cores;
 mod durable;
 mod fields;
 mod file_fault;
+mod generation;
 mod members;
 mod module_fault;
 mod outs;
@@ -21,6 +22,7 @@ mod words;
 
 pub use durable::count_marked;
 pub use file_fault::write_file_fault;
+pub use generation::write_generation;
 pub use module_fault::{ModuleFault, ModulePhase, write_module_fault};
 pub use refusal::{ContentFault, Refusal};
 pub use refusal_lines::write_refusal;

@@ -6,11 +6,11 @@ use Rattle.strand_judge.specs.Verdicts.{IsVerdict, IsYesWithin}
 use Rattle.strand_judge.specs.Words.{crash_of}
 use Rattle.strand_judge.specs.declared.verdict.Verdict.{Verdict}
 use Rattle.strand_modules.specs.Bank.{BankSeen, front_written}
+use Rattle.strand_again.specs.Inputs.{Inputs}
+use Rattle.strand_again.specs.Seen.{visible_after, durable_after, image_after}
+use Rattle.strand_again.specs.Stepping.{steps_made}
 use Rattle.strand_run.specs.Fault.{Course, fill, ran}
-use Rattle.strand_run.specs.Inputs.{Inputs}
 use Rattle.strand_run.specs.Outcome.{PartFilled}
-use Rattle.strand_run.specs.Seen.{visible_after, durable_after, image_after}
-use Rattle.strand_run.specs.Stepping.{steps_made}
 
 -- The bank's first words are the image of the durable set, which is downward-closed in persist order and holds every persist before its core's last join.
 -- So the judge of this run says yes to those words, with a set within the durable one.

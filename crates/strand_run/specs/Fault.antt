@@ -1,10 +1,9 @@
 -- The course of a run on a bank, by what the bank refuses, and what the bank shows of it.
-use Rattle.std.specs.Prelude.{◌≡◌, ℕ, List, Some, None}
-use Rattle.std.specs.Option.{option_map}
+use Rattle.std.specs.Prelude.{ℕ}
 use Rattle.std.specs.declared.option.Option.{Option}
 use Rattle.strand_modules.specs.Bank.{BankSeen, Keeps, Refuses, fill_refused, store_refused, read_refused}
-use Rattle.strand_modules.specs.declared.refusals.Refusals.{Refusals}
 use Rattle.strand_rules.specs.declared.turn.StepFault.{StepFault}
+use Rattle.strand_again.specs.Outcome.{RefusedBy, module_of}
 
 -- Modules are counted from 0, steps from 1.
 pub data Course : Type 0 where
@@ -13,24 +12,12 @@ pub data Course : Type 0 where
   -- The image was run; the store of a step was refused, if one was, and then the read at the end, if it was.
   ran : (store : Option StepFault) (read : Option ℕ) → Course
 
--- what a bank counted: what each module refused, and its faults
-abbrev pub FaultCounts : Type 0
-FaultCounts = List Refusals × List ℕ
-
-abbrev pub fault_counts : BankSeen → FaultCounts
-fault_counts bank = (bank.refused, bank.faults)
-
--- module m refused, if one did; else there was neither a refusal nor a fault
-abbrev pub RefusedBy : (Refusals → Refusals) → BankSeen → BankSeen → Option ℕ → Type 0
-RefusedBy count before after None = fault_counts after ≡ fault_counts before
-RefusedBy count before after (Some m) = Refuses count before after m
-
 -- the stores, and then the reads
 pub record RefusedRun (before after : BankSeen) (store : Option StepFault) (read : Option ℕ) : Type 0 where
   pub between : BankSeen
   pub kept_first : Keeps before between
   pub kept_second : Keeps between after
-  pub first : RefusedBy store_refused before between (option_map (λ (f : StepFault). f.«module») store)
+  pub first : RefusedBy store_refused before between (module_of store)
   pub second : RefusedBy read_refused between after read
 
 -- what the bank shows of a fault

@@ -4,33 +4,27 @@ use Rattle.std.specs.declared.option.Option.{Option}
 use Rattle.strand_inputs.specs.declared.step.Step.{Step}
 use Rattle.strand_report.specs.Report.{View}
 use Rattle.strand_rules.specs.declared.turn.StepFault.{StepFault}
-use Rattle.strand_modules.specs.Bank.{BankSeen, Keeps, front_written, reads_accepted, stores_accepted}
-use Rattle.strand_rules.specs.Machine.{program_of, start_of, durable_persists}
-use Rattle.strand_rules.specs.Run.{CanFail}
-use Rattle.strand_run.specs.declared.running.Run.{Run}
+use Rattle.strand_modules.specs.Bank.{BankSeen, Keeps, front_written}
+use Rattle.strand_rules.specs.Bubbles.{bubbles_of}
+use Rattle.strand_rules.specs.Machine.{durable_persists}
+use Rattle.strand_again.specs.declared.running.Ran.{Ran}
+use Rattle.strand_again.specs.Inputs.{Inputs, writes_after}
+use Rattle.strand_again.specs.Outcome.{IsStoreOf}
+use Rattle.strand_again.specs.Seen.{Accepts, AreHeld, StandsAfter, StandsAfterSome}
+use Rattle.strand_again.specs.Stepping.{steps_made}
 use Rattle.strand_run.specs.declared.running.RunEnd.{RunEnd}
 use Rattle.strand_run.specs.declared.running.RunEnd.TheVariants.{FillRefused, ReadRefused, Told}
 use Rattle.strand_run.specs.Fault.{Course, fill, ran, ShownByBank}
-use Rattle.strand_run.specs.Inputs.{Inputs, writes_after}
-use Rattle.strand_run.specs.Seen.{image_after, shown, view_after, AreHeld}
-use Rattle.strand_run.specs.Stepping.{steps_made}
+use Rattle.strand_run.specs.Seen.{shown, view_after}
 
 -- the courses that a run may take on a bank of so many modules: the store that is refused is that of a step which would be done
 abbrev pub Allows : ℕ → Inputs → Course → Type 0
 Allows count u (fill m) = m < count
-Allows count u (ran store read) = IfSome store (CanFail u.config (program_of u.image) (start_of u.image) u.steps count) × IfSome read (λ n. n < count)
-
--- The bank's first words are the image of the durable set after some steps, the others are as before.
-abbrev pub StandsAfter : Inputs → List Step → BankSeen → BankSeen → Type 0
-StandsAfter u steps before after = after.told ≡ front_written (image_after u steps) before.told
+Allows count u (ran store read) = IsStoreOf u count store × IfSome read (λ n. n < count)
 
 -- The first n words of the image were stored, but not all.
 abbrev pub FilledTo : Inputs → ℕ → BankSeen → BankSeen → Type 0
 FilledTo u n before after = (n < length u.image.persistent) × (after.told ≡ front_written (take n u.image.persistent) before.told)
-
--- The modules accepted so many stores and so many loads.
-abbrev pub Accepts : ℕ → ℕ → BankSeen → BankSeen → Type 0
-Accepts stores reads before after = after.accepted ≡ reads_accepted reads (stores_accepted stores before.accepted)
 
 -- The bank was filled and the steps were made, and then so many words were read.
 abbrev pub RanAndRead : Inputs → List Step → ℕ → BankSeen → BankSeen → Type 0
@@ -54,10 +48,6 @@ Leaves u (ran store read) before after = RanTo u (steps_made store u.steps) read
 abbrev pub PartFilled : Inputs → BankSeen → BankSeen → Type 0
 PartFilled u before after = (n : ℕ) × FilledTo u n before after
 
--- The bank is as after some first steps.
-abbrev pub StandsAfterSome : Inputs → BankSeen → BankSeen → Type 0
-StandsAfterSome u before after = (n : ℕ) × (n ≤ length u.steps) × StandsAfter u (take n u.steps) before after
-
 -- The modules accepted no more calls than those of the fill, of all steps and of the read.
 pub record AcceptsFew (u : Inputs) (before after : BankSeen) : Type 0 where
   pub stores : ℕ
@@ -72,11 +62,11 @@ pub record MayLeave (u : Inputs) (before after : BankSeen) : Type 0 where
   pub accepted : AcceptsFew u before after
 
 -- what a report shows of a run
-abbrev pub view_of : Run → View
-view_of r = shown r.machine.machine.config r.machine.machine.made r.machine.machine.state.now r.bubbles.items r.held (durable_persists r.machine.machine.state) r.fault
+abbrev pub view_of : Ran → View
+view_of r = shown r.machine.machine.config r.machine.machine.made r.machine.machine.state.now (bubbles_of r.turns) r.held (durable_persists r.machine.machine.state) r.fault
 
 -- What is told of a run: the steps that were made, and the words that were read.
-pub record TellsRun (u : Inputs) (before : BankSeen) (r : Run) : Type 0 where
+pub record TellsRun (u : Inputs) (before : BankSeen) (r : Ran) : Type 0 where
   pub size : r.machine.machine.program.sizes.persistent ≡ length u.image.persistent
   pub view : view_of r ≡ view_after u (steps_made r.fault u.steps) r.held r.fault
   pub held : AreHeld u (steps_made r.fault u.steps) before r.held

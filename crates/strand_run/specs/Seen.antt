@@ -1,11 +1,10 @@
--- What the programs of a run saw, what it made durable, and the report of both.
-use Rattle.std.specs.Prelude.{◌≡◌, ℕ, ◌≤◌, Bool, List, length, OnSome}
+-- The report of what the programs of a run saw and of what it made durable.
+use Rattle.std.specs.Prelude.{◌≡◌, ℕ, ◌≤◌, Bool, List, length}
 use Rattle.std.specs.Option.{option_map}
 use Rattle.std.specs.declared.option.Option.{Option}
 use Rattle.strand_inputs.specs.Settings.{Settings}
 use Rattle.strand_inputs.specs.declared.mode.Mode.{Mode}
 use Rattle.strand_inputs.specs.declared.step.Step.{Step}
-use Rattle.strand_events.specs.Order.{Set}
 use Rattle.strand_machine.specs.Cached.{cache_counts}
 use Rattle.strand_modules.specs.Bank.{BankSeen}
 use Rattle.strand_path.specs.Chains.{IsChain}
@@ -15,22 +14,15 @@ use Rattle.strand_report.specs.declared.module_fault.ModuleFault.{ModuleFault}
 use Rattle.strand_report.specs.declared.module_fault.ModulePhase.TheVariants as phase
 use Rattle.strand_rules.specs.declared.turn.BubbleAt.{BubbleAt}
 use Rattle.strand_rules.specs.declared.turn.StepFault.{StepFault}
-use Rattle.strand_rules.specs.Cycle.{durable_set}
-use Rattle.strand_rules.specs.Images.{persistent_image}
-use Rattle.strand_rules.specs.Machine.{program_of, start_of, durable_persists}
-use Rattle.strand_rules.specs.Visible.{Visible, visible}
-use Rattle.strand_run.specs.Inputs.{Inputs, state_after, bubbles_after}
+use Rattle.strand_rules.specs.Bubbles.{bubbles_of}
+use Rattle.strand_rules.specs.Machine.{durable_persists}
+use Rattle.strand_rules.specs.Visible.{Visible}
+use Rattle.strand_again.specs.Inputs.{Inputs, state_after, turns_after}
+use Rattle.strand_again.specs.Seen.{visible_after, AreHeld}
 
--- the visible run over the cores that retired an instruction in some steps
-abbrev pub visible_after : Inputs → List Step → Visible
-visible_after u steps = visible (program_of u.image) (start_of u.image).now (state_after u steps).retired
-
--- the durable set after them, and the persistent words of its image
-abbrev pub durable_after : Inputs → List Step → Set
-durable_after u steps = durable_set (state_after u steps)
-
-abbrev pub image_after : Inputs → List Step → List ℕ
-image_after u steps = persistent_image u.image.persistent (visible_after u steps).trace (durable_after u steps)
+-- those of some steps that did nothing
+abbrev pub bubbles_after : Inputs → List Step → List BubbleAt
+bubbles_after u steps = bubbles_of (turns_after u steps)
 
 -- the fault that a module's refusal is: of the fill, of the store of a step, or of the read at the end
 abbrev pub fill_fault : ℕ → ModuleFault
@@ -67,11 +59,6 @@ pub record Reports (mode : Mode) (view : View) (text : List ℕ) : Type 0 where
   pub chosen : IsChosenChain mode view.trace chain
   pub longest : (other : List ℕ) → IsChain mode view.trace other → length other ≤ length chain
   pub is : text ≡ report_text view chain
-
--- Words that a report shows as the bank's, one for each persistent word; where the bank tells its words they are the image of the durable set.
-pub record AreHeld (u : Inputs) (steps : List Step) (before : BankSeen) (held : List ℕ) : Type 0 where
-  pub count : length held ≡ length u.image.persistent
-  pub words : OnSome before.told (held ≡ image_after u steps)
 
 -- The text is the report of the visible run after some steps, with such words and the store that was refused behind them.
 pub record ReportsRun (u : Inputs) (steps : List Step) (before : BankSeen) (fault : Option StepFault) (text : List ℕ) : Type 0 where

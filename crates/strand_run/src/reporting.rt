@@ -5,8 +5,9 @@ ghost use Rattle.strand_report.specs.Report.{report_text};
 ghost use Rattle.strand_run.specs.Outcome.{view_of};
 ghost use Rattle.strand_run.specs.Seen.{Reports, store_fault};
 
-use crate::running::Run;
+use crate::bubbles::bubbles_of;
 use std::alloc::Global;
+use strand_again::Ran;
 use strand_base::OutOfMemory;
 use strand_inputs::Mode;
 use strand_order::build;
@@ -26,16 +27,17 @@ pub fn module_fault(fault: Option<StepFault>) -> Option<ModuleFault>
 }
 
 // Appends the report of a run with this path.
-fn put_report(run: &Run, path: &Path, into: &mut Vec<u8>) -> Result<(), OutOfMemory>
+fn put_report(alloc: Global, run: &Ran, path: &Path, into: &mut Vec<u8>) -> Result<(), OutOfMemory>
     ensures { Puts result (report_text (view_of run.now) path.now.chain)
         into.old.items into.new.items }
 {
     let visible = run.machine.flatten()?;
+    let bubbles = bubbles_of(alloc, run.turns.as_slice())?;
     let view = RunView {
         stop: run.machine.made(),
         cores: run.machine.cores(),
         trace: run.machine.trace(),
-        bubbles: &run.bubbles,
+        bubbles: &bubbles,
         visible: &visible,
         held: run.held.as_slice(),
         durable: run.machine.durable(),
@@ -47,12 +49,12 @@ fn put_report(run: &Run, path: &Path, into: &mut Vec<u8>) -> Result<(), OutOfMem
 }
 
 /// The report of a run under this mode, with the chosen chain of its trace (docs/FORMATS.md).
-pub fn report(alloc: Global, run: &Run, mode: Mode) -> Result<Vec<u8>, OutOfMemory>
+pub fn report(alloc: Global, run: &Ran, mode: Mode) -> Result<Vec<u8>, OutOfMemory>
     ensures { IfOk result (λ text. Reports mode (view_of run.now) text.items) }
 {
     let graph = build(alloc, run.machine.trace(), mode)?;
     let path = longest(alloc, &graph)?;
     let mut text = Vec::new(alloc);
-    put_report(run, &path, &mut text)?;
+    put_report(alloc, run, &path, &mut text)?;
     Ok(text)
 }

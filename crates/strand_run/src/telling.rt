@@ -7,8 +7,9 @@ ghost use Rattle.strand_report.specs.Trace.{trace_text};
 ghost use Rattle.strand_run.specs.Outcome.{view_of};
 ghost use Rattle.strand_run.specs.Summed.{Sums};
 
-use crate::running::Run;
+use crate::bubbles::bubbles_of;
 use std::alloc::Global;
+use strand_again::Ran;
 use strand_base::OutOfMemory;
 use strand_inputs::Mode;
 use strand_judge::{Verdict, judge};
@@ -18,7 +19,7 @@ use strand_refute::{Certificate, Checked, Refutation, check, refute};
 use strand_report::{Summary, count_marked, write_trace};
 
 /// The events of a run and the edges of their graph under this mode, as text (docs/FORMATS.md).
-pub fn trace(alloc: Global, run: &Run, mode: Mode) -> Result<Vec<u8>, OutOfMemory>
+pub fn trace(alloc: Global, run: &Ran, mode: Mode) -> Result<Vec<u8>, OutOfMemory>
     ensures { IfOk result (λ text. text.items ≡ trace_text mode (view_of run.now).trace) }
 {
     let graph = build(alloc, run.machine.trace(), mode)?;
@@ -30,7 +31,7 @@ pub fn trace(alloc: Global, run: &Run, mode: Mode) -> Result<Vec<u8>, OutOfMemor
 /// The judge's verdict on a crash image of as many words as the run's initial ones, under this mode (docs/judge.md).
 pub fn verdict(
     alloc: Global,
-    run: &Run,
+    run: &Ran,
     mode: Mode,
     initial: &[u64],
     crash: &[u64],
@@ -50,7 +51,7 @@ pub fn verdict(
 /// certificate where it may not and the least set where it may (docs/certificates.md).
 pub fn refutation(
     alloc: Global,
-    run: &Run,
+    run: &Ran,
     mode: Mode,
     initial: &[u64],
     crash: &[u64],
@@ -74,7 +75,7 @@ pub fn refutation(
 /// from it under this mode (docs/certificates.md). The graph of its trace isn't built.
 pub fn checked(
     alloc: Global,
-    run: &Run,
+    run: &Ran,
     mode: Mode,
     initial: &[u64],
     crash: &[u64],
@@ -96,7 +97,7 @@ pub fn checked(
 /// hold.
 pub fn summary(
     alloc: Global,
-    run: &Run,
+    run: &Ran,
     mode: Mode,
     initial: &[u64],
 ) -> Result<Summary, OutOfMemory>
@@ -109,11 +110,12 @@ pub fn summary(
     let path = longest(alloc, &graph)?;
     let held = run.held.as_slice();
     let verdict = judge(alloc, &graph, &trace.joined()?, initial, held)?;
+    let bubbles = bubbles_of(alloc, run.turns.as_slice())?;
     Ok(Summary {
         persists: u64::from(trace.persists()),
         durable: count_marked(run.machine.durable()) as u64,
         path: path.chain.as_slice().len() as u64,
-        done: run.machine.made().saturating_sub(run.bubbles.len() as u64),
+        done: run.machine.made().saturating_sub(bubbles.len() as u64),
         verdict,
     })
 }

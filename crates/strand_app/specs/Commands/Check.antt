@@ -10,8 +10,8 @@ use Rattle.strand_refute.specs.CertificateSeen.{CertificateSeen}
 use Rattle.strand_refute.specs.Checked.{IsChecked, IsFirstRejected, SaysAccepted}
 use Rattle.strand_refute.specs.declared.checking.Checked.{Checked}
 use Rattle.strand_refute.specs.declared.checking.Checked.TheVariants.{Accepted, Rejected}
-use Rattle.strand_run.specs.Inputs.{Inputs}
-use Rattle.strand_run.specs.Seen.{visible_after}
+use Rattle.strand_again.specs.Inputs.{Inputs}
+use Rattle.strand_again.specs.Seen.{visible_after}
 use Rattle.strand_app.specs.declared.status.Status.{Status}
 use Rattle.strand_app.specs.declared.status.Status.TheVariants as status
 use Rattle.strand_app.specs.Contents.{crash_in, certificate_in}

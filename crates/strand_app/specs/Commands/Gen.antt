@@ -13,8 +13,9 @@ use Rattle.strand_report.specs.Summary.{gen_line, summary_text}
 use Rattle.strand_report.specs.declared.module_fault.ModuleFault.{ModuleFault}
 use Rattle.strand_report.specs.declared.summary.Summary.{Summary}
 use Rattle.strand_run.specs.Fault.{Course, fill, ran}
-use Rattle.strand_run.specs.Inputs.{Inputs}
-use Rattle.strand_run.specs.Seen.{AreHeld, visible_after, durable_after, view_after, fill_fault, read_fault, store_fault}
+use Rattle.strand_again.specs.Inputs.{Inputs}
+use Rattle.strand_again.specs.Seen.{AreHeld, visible_after, durable_after}
+use Rattle.strand_run.specs.Seen.{view_after, fill_fault, read_fault, store_fault}
 use Rattle.strand_run.specs.Summed.{Sums}
 use Rattle.strand_app.specs.declared.status.Status.{Status}
 use Rattle.strand_app.specs.declared.status.Status.TheVariants as status

@@ -2,7 +2,7 @@
 use Rattle.std.specs.Prelude.{ℕ, []}
 use Rattle.strand_inputs.specs.Schedule.{schedule_text}
 use Rattle.strand_modules.specs.Bank.{BankSeen}
-use Rattle.strand_run.specs.Inputs.{Inputs}
+use Rattle.strand_again.specs.Inputs.{Inputs}
 use Rattle.strand_app.specs.Generated.{generated}
 use Rattle.strand_app.specs.Reads.{decided}
 use Rattle.strand_app.specs.Rule.{Rule}

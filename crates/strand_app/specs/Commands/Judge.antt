@@ -9,8 +9,8 @@ use Rattle.strand_judge.specs.declared.verdict.Verdict.{Verdict}
 use Rattle.strand_judge.specs.declared.verdict.Verdict.TheVariants.{Yes, No}
 use Rattle.strand_modules.specs.Bank.{BankSeen}
 use Rattle.strand_report.specs.Verdict.{verdict_text}
-use Rattle.strand_run.specs.Inputs.{Inputs}
-use Rattle.strand_run.specs.Seen.{visible_after}
+use Rattle.strand_again.specs.Inputs.{Inputs}
+use Rattle.strand_again.specs.Seen.{visible_after}
 use Rattle.strand_app.specs.declared.status.Status.{Status}
 use Rattle.strand_app.specs.declared.status.Status.TheVariants as status
 use Rattle.strand_app.specs.Contents.{crash_in}

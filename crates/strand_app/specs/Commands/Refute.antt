@@ -14,7 +14,7 @@ use Rattle.strand_refute.specs.Checked.{NoneIsJudged}
 use Rattle.strand_refute.specs.Grammar.{certificate_of, certificate_text}
 use Rattle.strand_refute.specs.declared.limits.TheConstants.{MOST_CERTIFICATE_BYTES}
 use Rattle.strand_report.specs.Verdict.{verdict_text}
-use Rattle.strand_run.specs.Seen.{visible_after}
+use Rattle.strand_again.specs.Seen.{visible_after}
 use Rattle.strand_app.specs.declared.status.Status.{Status}
 use Rattle.strand_app.specs.declared.status.Status.TheVariants as status
 use Rattle.strand_app.specs.Commands.Judge.{Question, judge_reads}

@@ -3,8 +3,8 @@ use Rattle.std.specs.Prelude.{◌≡◌, ℕ, List, [], ◌∷◌}
 use Rattle.strand_inputs.specs.declared.stop.Stop.{Stop}
 use Rattle.strand_modules.specs.Bank.{BankSeen}
 use Rattle.strand_report.specs.Trace.{trace_text}
-use Rattle.strand_run.specs.Inputs.{Inputs}
-use Rattle.strand_run.specs.Seen.{visible_after}
+use Rattle.strand_again.specs.Inputs.{Inputs}
+use Rattle.strand_again.specs.Seen.{visible_after}
 use Rattle.strand_app.specs.declared.status.Status.{Status}
 use Rattle.strand_app.specs.declared.status.Status.TheVariants as status
 use Rattle.strand_app.specs.Commands.Run.{run_reads}

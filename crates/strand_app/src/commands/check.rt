@@ -18,11 +18,12 @@ use crate::running::{Ran, run_on_bank};
 use crate::status::{Made, Status};
 use itoa::Buffer;
 use std::alloc::Global;
+use strand_again::Ran as Run;
 use strand_base::{Files, OutOfMemory, put_line};
 use strand_inputs::Words;
 use strand_modules::ModuleBank;
 use strand_refute::{Certificate, Checked};
-use strand_run::{Run, checked};
+use strand_run::checked;
 
 /// What is run, the words of a crash image, and a certificate of no.
 #[derive(Drop)]

@@ -17,11 +17,12 @@ use crate::refusing::refuse;
 use crate::running::run_setup;
 use crate::status::{Made, Status};
 use std::alloc::Global;
+use strand_again::Ran as Run;
 use strand_base::OutOfMemory;
 use strand_inputs::Stop;
 use strand_modules::ModuleBank;
 use strand_report::{ModuleFault, ModulePhase, write_generated, write_module_fault, write_summary};
-use strand_run::{Run, RunEnd, module_fault, summary};
+use strand_run::{RunEnd, module_fault, summary};
 
 // What is run on a bank of so many words: all steps that are generated.
 fn open_generated(alloc: Global, seed: u64, size: u64, bank: u64) -> Result<Setup, OpenFault>

@@ -16,12 +16,13 @@ use crate::refusing::refuse;
 use crate::running::{Ran, run_on_bank};
 use crate::status::{Made, Status};
 use std::alloc::Global;
+use strand_again::Ran as Run;
 use strand_base::{Files, OutOfMemory};
 use strand_inputs::Words;
 use strand_judge::Verdict;
 use strand_modules::ModuleBank;
 use strand_report::write_verdict;
-use strand_run::{Run, verdict};
+use strand_run::verdict;
 
 /// What is run, and the words of a crash image.
 #[derive(Drop)]

@@ -17,12 +17,13 @@ use crate::refusing::refuse;
 use crate::running::{Ran, run_on_bank};
 use crate::status::{Made, Status};
 use std::alloc::Global;
+use strand_again::Ran as Run;
 use strand_base::{Files, OutOfMemory};
 use strand_judge::Verdict;
 use strand_modules::ModuleBank;
 use strand_refute::{Refutation, write_certificate};
 use strand_report::write_verdict;
-use strand_run::{Run, refutation};
+use strand_run::refutation;
 
 fn refutation_of(alloc: Global, question: &Question, run: &Run) -> Result<Made, OutOfMemory>
     requires persistent { run.now.machine.machine.program.sizes.persistent

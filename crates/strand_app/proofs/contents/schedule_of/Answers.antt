@@ -16,4 +16,4 @@ pub returns-in-Err-clause-says : goal.returns-in-Err-clause-says
 unfolding schedule_in
 returns-in-Err-clause-says c =
     let said = rw (ap length c.entries.ensures.entries, ap (λ (s : Settings). s.buffers) c.config.view_is) at c.in-Err.ensures.gives in
-    rw c.open_fault.ensures (input_said 3 (λ steps. steps) MOST_FILE_BYTES _ _ c.in-Err.fault c.requires said)
+    rw c.open_fault.ensures (input_said c.args.file (λ steps. steps) MOST_FILE_BYTES _ _ c.in-Err.fault c.requires said)

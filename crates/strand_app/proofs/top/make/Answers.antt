@@ -24,6 +24,9 @@ returns-in-Check g c = rw c.in-Check.is c.check_claim.ensures
 pub returns-in-Trace : goal.returns-in-Trace
 returns-in-Trace g c = rw c.in-Trace.is c.trace_run.ensures
 
+pub returns-in-Again : goal.returns-in-Again
+returns-in-Again g c = rw c.in-Again.is c.tell_generations.ensures
+
 pub returns-in-Gen : goal.returns-in-Gen
 returns-in-Gen g c = rw c.in-Gen.is (c.judge_generated.ensures _)
 

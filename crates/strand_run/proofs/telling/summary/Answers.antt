@@ -7,6 +7,7 @@ use Rattle.strand_judge.specs.Words.{crash_of}
 use Rattle.strand_path.specs.Chosen.{IsChosenChain}
 use Rattle.strand_path.proofs.ChosenChains.{chosen_longest}
 use Rattle.strand_report.specs.Persists.{marked}
+use Rattle.strand_rules.specs.Bubbles.{bubbles_of}
 use Rattle.strand_run.proofs.telling.summary.Goals as goal
 
 pub returns : goal.returns
@@ -23,7 +24,7 @@ returns c =
       chain = chain;
       chosen = chosen;
       longest = λ other is. chosen_longest _ _ _ other chosen is;
-      path = ap length c.as_slice.ensures;
-      done = omega (arith, c.saturating_sub.ensures, c.made.ensures, c.len.ensures);
+      path = ap length c.as_slice-2.ensures;
+      done = let many = ap length (c.in_ok-bubbles.ensures ∙ ap bubbles_of c.as_slice.ensures) in omega (arith, c.saturating_sub.ensures, c.made.ensures, c.len.ensures, many);
       judged = subst (λ (t : List Event). IsVerdict c.args.mode t (crash_of c.args.initial.now c.args.run.now.held) c.in_ok-verdict.verdict) events judged;
     }

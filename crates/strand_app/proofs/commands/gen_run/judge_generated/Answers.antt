@@ -1,7 +1,7 @@
 use Rattle.std.proofs.Common.{ℕ, [], subst}
 use Rattle.std.specs.Prelude.{Ok, Err}
 use Rattle.strand_report.specs.Summary.{gen_line}
-use Rattle.strand_run.specs.Inputs.{Inputs}
+use Rattle.strand_again.specs.Inputs.{Inputs}
 use Rattle.strand_run.proofs.RunImage.{untouched}
 use Rattle.strand_app.specs.Commands.Gen.{PutsGen, RefutesHeld, gen_reads, gen_rule}
 use Rattle.strand_app.specs.Generated.{IsGiven}

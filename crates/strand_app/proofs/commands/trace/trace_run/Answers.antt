@@ -1,6 +1,6 @@
 use Rattle.std.proofs.Common.{ℕ, subst}
 use Rattle.std.specs.Prelude.{Err}
-use Rattle.strand_run.specs.Inputs.{Inputs}
+use Rattle.strand_again.specs.Inputs.{Inputs}
 use Rattle.strand_app.specs.CommandView.{trace_rule_in}
 use Rattle.strand_app.specs.Commands.Run.{run_reads}
 use Rattle.strand_app.specs.Commands.Trace.{PutsTrace}
