@@ -236,5 +236,5 @@ again_rule machine image pairs before = record {
   MayLeave = λ parts. MayLeaveBank parts before;
   Holds = λ parts. HoldsWay parts before;
   MayHold = λ parts. MayHoldBank parts before;
-  Refutes = λ parts. RefutesLast parts before;
+  MeansNo = λ parts. RefutesLast parts before;
 }
