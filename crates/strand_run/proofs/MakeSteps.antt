@@ -20,7 +20,10 @@ use Rattle.strand_rules.specs.declared.turn.Turn.{Turn}
 use Rattle.strand_rules.specs.declared.turn.Turn.TheVariants.{Done, Bubble, Fault}
 use Rattle.strand_modules.proofs.AcceptedCalls.{stores_none, stores_again}
 use Rattle.strand_modules.proofs.FrontWords.{keeps_same, keeps_trans, refuses_after}
-use Rattle.strand_run.specs.Fault.{FaultCounts, fault_counts}
+use Rattle.strand_modules.proofs.Quiet.{quiet_same, quiet_still, quiet_trans}
+use Rattle.strand_modules.specs.MigrationProgress.{MigrationProgress}
+use Rattle.strand_modules.proofs.MigrationProgress.{progress_none, progress_more, progress_still}
+use Rattle.strand_run.specs.Fault.{NoneRefused}
 use Rattle.strand_run.specs.Stepping.{MakesSteps, bubbles_in}
 use Rattle.strand_run.proofs.Turns.{run_next, writes_next, bubbles_done, bubbles_bubble}
 
@@ -36,7 +39,8 @@ pub record MadeSteps (old now : Machine) (steps : List Step) (i : ℕ) (bank ban
   pub made : now.made ≡ old.made + i
   pub state : now.state ≡ after_steps old.config old.program old.state (take i steps)
   pub kept : Keeps bank bank'
-  pub same : fault_counts bank' ≡ fault_counts bank
+  pub same : NoneRefused bank bank'
+  pub progress : MigrationProgress (writes_of old.config old.program old.state (take i steps)) bank bank'
   pub accepted : bank'.accepted ≡ stores_accepted (writes_of old.config old.program old.state (take i steps)) bank.accepted
   pub stands : StandsOn old.program.sizes.persistent old.state now.state bank bank'
   pub bubbles_are : bubbles ≡ bubbles_in old.config old.program old.state (take i steps)
@@ -53,20 +57,29 @@ made_none m steps bank bubbles e =
       made = omega arith;
       state = refl;
       kept = keeps_same bank;
-      same = refl;
+      same = record { refused = refl; quiet = quiet_same bank };
+      progress = progress_none bank;
       accepted = stores_none bank.accepted;
       stands = λ words base long stands. stands;
       bubbles_are = e;
       few = rw e (omega arith);
     }
 
--- neither a refusal nor a fault was counted
-pub same_counts : (bank bank' : BankSeen) → bank'.refused ≡ bank.refused → bank'.faults ≡ bank.faults → fault_counts bank' ≡ fault_counts bank
-same_counts bank bank' refused faults = rw (refused, faults) refl
+-- nothing was refused, and then again nothing
+pub unrefused_then : (a b c : BankSeen) → Keeps a b → Keeps b c → NoneRefused a b → NoneRefused b c → NoneRefused a c
+unrefused_then a b c first second one two = record { refused = two.refused ∙ one.refused; quiet = quiet_trans a b c first second one.quiet two.quiet }
 
-stored_ok : (r : Option WordStore) (bank bank' : BankSeen) → StoresOk r bank bank' → Keeps bank bank' × (fault_counts bank' ≡ fault_counts bank)
-stored_ok None bank bank' e = (subst (λ (b : BankSeen). Keeps bank b) (sym e) (keeps_same bank), ap fault_counts e)
-stored_ok (Some r) bank bank' stores = (stores.kept, same_counts bank bank' stores.accepted stores.quiet)
+pub unrefused : (bank bank' : BankSeen) → bank'.refused ≡ bank.refused → bank'.faults ≡ bank.faults → NoneRefused bank bank'
+unrefused bank bank' refused faults = record { refused = refused; quiet = quiet_still bank bank' faults }
+
+stored_ok : (r : Option WordStore) (bank bank' : BankSeen) → StoresOk r bank bank' → Keeps bank bank' × NoneRefused bank bank'
+stored_ok None bank bank' e = (subst (λ (b : BankSeen). Keeps bank b) (sym e) (keeps_same bank), unrefused bank bank' (ap (λ (b : BankSeen). b.refused) e) (ap (λ (b : BankSeen). b.faults) e))
+stored_ok (Some r) bank bank' stores = (stores.kept, record { refused = stores.accepted; quiet = stores.quiet })
+
+stored_progress : (r : Option WordStore) (n : ℕ) (start bank bank' : BankSeen) → Keeps start bank → StoresOk r bank bank' → MigrationProgress n start bank → MigrationProgress (n + stores_of Done r) start bank'
+stored_progress None n start bank bank' kept e so =
+    subst (λ (k : ℕ). MigrationProgress k start bank') (let none : n ≡ n + 0 = omega arith in none) (subst (λ (b : BankSeen). MigrationProgress n start b) (sym e) so)
+stored_progress (Some r) n start bank bank' kept stores so = progress_more n start bank bank' r.place r.value kept so stores
 
 stored_counts : (r : Option WordStore) (bank bank' : BankSeen) → StoresOk r bank bank' → bank'.accepted ≡ stores_accepted (stores_of Done r) bank.accepted
 stored_counts None bank bank' e = ap (λ (b : BankSeen). b.accepted) e ∙ stores_none bank.accepted
@@ -90,10 +103,10 @@ module _ (old m m' : Machine) (steps : List Step) (i : ℕ) (d : Step) (b b' b''
   on = subst (λ (p : Program). StandsOn p.sizes.persistent m.state m'.state b' b'') so.program stands
 
   -- one step more that was done or a bubble
-  made_one : (bubbles' : List BubbleAt) (t : Turn) → turn m.config m.program m.state (get_or steps i d) ≡ t → m' ≡ stepped m (get_or steps i d) → Keeps b' b'' → fault_counts b'' ≡ fault_counts b'
+  made_one : (bubbles' : List BubbleAt) (t : Turn) → turn m.config m.program m.state (get_or steps i d) ≡ t → m' ≡ stepped m (get_or steps i d) → Keeps b' b'' → NoneRefused b' b'' → MigrationProgress (writes_of old.config old.program old.state (take i steps) + stores_of t (stored_by m.state (get_or steps i d))) b b''
       → b''.accepted ≡ stores_accepted (stores_of t (stored_by m.state (get_or steps i d))) b'.accepted → bubbles' ≡ bubbles_in old.config old.program old.state (take (i + 1) steps)
       → length bubbles' ≤ i + 1 → MadeSteps old m' steps (i + 1) b b'' bubbles'
-  made_one bubbles' t turned is kept same counts bubbles_are few =
+  made_one bubbles' t turned is kept same progress counts bubbles_are few =
       let state = ap (λ (x : Machine). x.state) is in
       record {
         config = setup.config ∙ so.config;
@@ -104,7 +117,9 @@ module _ (old m m' : Machine) (steps : List Step) (i : ℕ) (d : Step) (b b' b''
         state = state ∙ ap (λ (g : Settings). after g m.program m.state (get_or steps i d)) so.config ∙ ap (λ (p : Program). after old.config p m.state (get_or steps i d)) so.program
             ∙ ap (λ (s : State). after old.config old.program s (get_or steps i d)) so.state ∙ sym (run_next old.config old.program old.state steps i d lt);
         kept = keeps_trans b b' b'' so.kept kept;
-        same = same ∙ so.same;
+        same = unrefused_then b b' b'' so.kept kept so.same same;
+        progress = subst (λ (n : ℕ). MigrationProgress n b b'') (ap (λ (s : State). writes_of old.config old.program old.state (take i steps) + stores_of t (stored_by s (get_or steps i d))) so.state
+            ∙ sym (writes_next old.config old.program old.state steps i d t lt (turn_at old m steps i d b b' bubbles so ∙ turned))) progress;
         accepted = stores_again b.accepted b'.accepted b''.accepted (writes_of old.config old.program old.state (take i steps)) (stores_of t (stored_by m.state (get_or steps i d))) so.accepted counts
             ∙ ap (λ (n : ℕ). stores_accepted n b.accepted) (ap (λ (s : State). writes_of old.config old.program old.state (take i steps) + stores_of t (stored_by s (get_or steps i d))) so.state
             ∙ sym (writes_next old.config old.program old.state steps i d t lt (turn_at old m steps i d b b' bubbles so ∙ turned)));
@@ -117,23 +132,26 @@ module _ (old m m' : Machine) (steps : List Step) (i : ℕ) (d : Step) (b b' b''
   made_done made =
       let stored = stored_ok (stored_by m.state (get_or steps i d)) b' b'' made.2 in
       let is = turn_at old m steps i d b b' bubbles so ∙ made.0 in
-      made_one bubbles Done made.0 made.1 stored.0 stored.1 (stored_counts (stored_by m.state (get_or steps i d)) b' b'' made.2) (so.bubbles_are ∙ sym (bubbles_done old.config old.program old.state steps i d lt is)) (omega (arith, so.few))
+      made_one bubbles Done made.0 made.1 stored.0 stored.1
+      (stored_progress (stored_by m.state (get_or steps i d)) (writes_of old.config old.program old.state (take i steps)) b b' b'' so.kept made.2 so.progress) (stored_counts (stored_by m.state (get_or steps i d)) b' b'' made.2) (so.bubbles_are ∙ sym (bubbles_done old.config old.program old.state steps i d lt is)) (omega (arith, so.few))
 
   pub made_bubble : (cause : Cause) (bubble : BubbleAt) (more : List BubbleAt) → StepLeaves m m' b' b'' (get_or steps i d) (Bubble cause) → bubble ≡ record { cycle = i + 1; cause = cause }
       → more ≡ bubbles ++ bubble ∷ [] → length more ≡ length bubbles + 1 → MadeSteps old m' steps (i + 1) b b'' more
   made_bubble cause bubble more made at pushed long =
       let is = turn_at old m steps i d b b' bubbles so ∙ made.0 in
-      made_one more (Bubble cause) made.0 made.1 (subst (λ (x : BankSeen). Keeps b' x) (sym made.2) (keeps_same b')) (ap fault_counts made.2)
+      made_one more (Bubble cause) made.0 made.1 (subst (λ (x : BankSeen). Keeps b' x) (sym made.2) (keeps_same b')) (unrefused b' b'' (ap (λ (x : BankSeen). x.refused) made.2) (ap (λ (x : BankSeen). x.faults) made.2))
+      (subst (λ (n : ℕ). MigrationProgress n b b'') (let none : writes_of old.config old.program old.state (take i steps) ≡ writes_of old.config old.program old.state (take i steps) + 0 = omega arith in none)
+      (subst (λ (x : BankSeen). MigrationProgress (writes_of old.config old.program old.state (take i steps)) b x) (sym made.2) so.progress))
       (ap (λ (x : BankSeen). x.accepted) made.2 ∙ stores_none b'.accepted)
       (rw (pushed, at, so.bubbles_are) (sym (bubbles_bubble old.config old.program old.state steps i d cause lt is))) (omega (arith, so.few, long))
 
 refused_at : (s : State) (step : Step) (b b' : BankSeen) (m : ℕ) → StoresErr (stored_by s step) b b' m
-    → (r : WordStore) × (stored_by s step ≡ Some r) × (m ≡ r.place % length b.faults) × Refuses store_refused b b' m × Keeps b b' × (b'.accepted ≡ b.accepted)
+    → (r : WordStore) × (stored_by s step ≡ Some r) × (m ≡ r.place % b.modules) × Refuses store_refused b b' m × Keeps b b' × (b'.accepted ≡ b.accepted) × (b'.migration ≡ b.migration)
 refused_at s step b b' m refused = go (stored_by s step) refl refused
   where
-    go : (o : Option WordStore) → stored_by s step ≡ o → StoresErr o b b' m → (r : WordStore) × (stored_by s step ≡ Some r) × (m ≡ r.place % length b.faults) × Refuses store_refused b b' m × Keeps b b' × (b'.accepted ≡ b.accepted)
+    go : (o : Option WordStore) → stored_by s step ≡ o → StoresErr o b b' m → (r : WordStore) × (stored_by s step ≡ Some r) × (m ≡ r.place % b.modules) × Refuses store_refused b b' m × Keeps b b' × (b'.accepted ≡ b.accepted) × (b'.migration ≡ b.migration)
     go None e refused = absurd refused
-    go (Some r) e refused = (r, e, refused.refused.0, refused.refused.1, refused.kept, refused.uncounted)
+    go (Some r) e refused = (r, e, refused.refused.0, refused.refused.1, refused.kept, refused.uncounted, refused.still)
 
 pub made_all : (old m : Machine) (steps : List Step) (i : ℕ) (b b' : BankSeen) (bubbles : List BubbleAt) → i ≡ length steps → MadeSteps old m steps i b b' bubbles → MakesSteps old m steps b b' bubbles None
 made_all old m steps i b b' bubbles all so =
@@ -145,6 +163,7 @@ made_all old m steps i b b' bubbles all so =
       state = so.state ∙ ap (λ (xs : List Step). after_steps old.config old.program old.state xs) whole;
       bubbles_are = so.bubbles_are ∙ ap (λ (xs : List Step). bubbles_in old.config old.program old.state xs) whole;
       refused = so.same;
+      progress = subst (λ (xs : List Step). MigrationProgress (writes_of old.config old.program old.state xs) b b') whole so.progress;
       accepted = so.accepted ∙ ap (λ (xs : List Step). stores_accepted (writes_of old.config old.program old.state xs) b.accepted) whole;
       kept = so.kept;
       stands = so.stands;
@@ -171,11 +190,12 @@ made_until old m m' steps i x d b b' b'' bubbles lt so made setup stands =
           done = rw one (turn_at old m steps i d b b' bubbles so ∙ made.0);
           request = part.0;
           stores = rw (one, ← so.state) part.1;
-          holder = part.2 ∙ ap (λ (n : ℕ). part.0.place % n) so.kept.count;
+          holder = part.2 ∙ ap (λ (n : ℕ). part.0.place % n) so.kept.modules;
         },
-        refuses_after store_refused b b' b'' x so.kept (ap (λ (c : FaultCounts). c.0) so.same) part.3,
+        refuses_after store_refused b b' b'' x so.kept so.same.refused part.3,
       );
       accepted = rw one (part.5 ∙ so.accepted);
+      progress = rw one (progress_still (writes_of old.config old.program old.state (take i steps)) b b' b'' part.6 so.progress);
       kept = keeps_trans b b' b'' so.kept part.4;
       stands = stands_then old.program.sizes.persistent old.state m.state m'.state b b' b'' so.stands (on old m m' steps i d b b' b'' bubbles lt so setup stands);
     }

@@ -31,7 +31,7 @@ use Rattle.strand_run.specs.Inputs.{Inputs, state_after, bubbles_after, writes_a
 use Rattle.strand_run.specs.Outcome.{StandsAfter, RanAndRead, MayLeave, StandsAfterSome, TellsRun, RunsTo, view_of}
 use Rattle.strand_run.specs.Seen.{visible_after, durable_after, image_after, shown, view_after, AreHeld}
 use Rattle.strand_run.specs.Stepping.{MakesSteps, ShowsRefusal, steps_made}
-use Rattle.strand_run.proofs.MakeSteps.{same_counts}
+use Rattle.strand_run.proofs.MakeSteps.{unrefused, unrefused_then}
 
 -- what the programs saw is the visible run
 pub seen : (u : Inputs) (steps : List Step) → (state_after u steps).now ≡ visible_after u steps
@@ -111,12 +111,12 @@ module _ (u : Inputs) (m0 m1 : Machine) (b0 b1 b2 b3 : BankSeen) (start : m0 ≡
     accepted2 = stores_again b0.accepted b1.accepted b2.accepted (length u.image.persistent) (writes_after u (steps_made fault u.steps)) fills.counted again.accepted
 
     -- the step that was refused could fail, and there it was
-    could : (f : Option StepFault) → ShowsRefusal (machine_at u.config u.image (length u.steps)) u.steps b1 b2 f → IfSome f (CanFail u.config (program_of u.image) (start_of u.image) u.steps (length b0.faults))
+    could : (f : Option StepFault) → ShowsRefusal (machine_at u.config u.image (length u.steps)) u.steps b1 b2 f → IfSome f (CanFail u.config (program_of u.image) (start_of u.image) u.steps b0.modules)
     could None refused = tt
-    could (Some f) refused = subst (λ (n : ℕ). CanFail u.config (program_of u.image) (start_of u.image) u.steps n f) fills.kept.count refused.0
+    could (Some f) refused = subst (λ (n : ℕ). CanFail u.config (program_of u.image) (start_of u.image) u.steps n f) fills.kept.modules refused.0
 
     refused_by : (f : Option StepFault) → ShowsRefusal (machine_at u.config u.image (length u.steps)) u.steps b1 b2 f → RefusedBy store_refused b0 b2 (option_map (λ (x : StepFault). x.«module») f)
-    refused_by None refused = refused ∙ same_counts b0 b1 fills.accepted fills.quiet
+    refused_by None refused = unrefused_then b0 b1 b2 fills.kept again.kept (unrefused b0 b1 fills.accepted fills.quiet) refused
     refused_by (Some f) refused = refuses_after store_refused b0 b1 b2 f.«module» fills.kept fills.accepted refused.1
 
     within : (f : StepFault) → ShowsRefusal (machine_at u.config u.image (length u.steps)) u.steps b1 b2 (Some f) → f.step - 1 ≤ length u.steps
@@ -136,11 +136,11 @@ module _ (u : Inputs) (m0 m1 : Machine) (b0 b1 b2 b3 : BankSeen) (start : m0 ≡
       pub run_read : (r : Run) → r.machine.machine ≡ m1 → r.bubbles.items ≡ bubbles → r.fault ≡ fault → b3.refused ≡ b2.refused → b3.faults ≡ b2.faults
           → b3.accepted ≡ reads_accepted (length u.image.persistent) b2.accepted → length r.held ≡ length u.image.persistent
           → IfSome b2.told (λ all. r.held ≡ take (length u.image.persistent) all) → RunsTo u b0 b3 (Told r)
-      run_read r machine bubbles_are is unrefused quiet counts count words =
+      run_read r machine bubbles_are is refused_same quiet counts count words =
           record {
             fault = ran fault None;
             allowed = (could fault again.refused, tt);
-            shown = record { between = b2; kept_first = kept2; kept_second = kept; first = refused_by fault again.refused; second = same_counts b2 b3 unrefused quiet };
+            shown = record { between = b2; kept_first = kept2; kept_second = kept; first = refused_by fault again.refused; second = unrefused b2 b3 refused_same quiet };
             kept = kept3;
             leaves = ran3 (length u.image.persistent) counts;
             is = (ap (λ (f : Option StepFault). ran f None) (sym is), tells);
@@ -173,13 +173,13 @@ module _ (u : Inputs) (m0 m1 : Machine) (b0 b1 b2 b3 : BankSeen) (start : m0 ≡
 
       -- a module refused the read
       pub run_unread : (e : AtModule) → ReadFails b2 b3 (length u.image.persistent) (Module e) → RunsTo u b0 b3 (ReadRefused e.«module»)
-      run_unread e (i, lt, holder, counts, asked, refuses) =
+      run_unread e (i, lt, holder, counts, asked, refuses, rose) =
           record {
             fault = ran fault (Some e.«module»);
-            allowed = (could fault again.refused, omega (arith, refuses.exists, kept2.count));
+            allowed = (could fault again.refused, omega (arith, refuses.exists, kept2.modules));
             shown = record { between = b2; kept_first = kept2; kept_second = kept; first = refused_by fault again.refused; second = refuses };
             kept = kept3;
-            leaves = (i, lt, holder ∙ ap (λ (k : ℕ). i % k) kept2.count, ran3 i counts);
+            leaves = (i, lt, holder ∙ ap (λ (k : ℕ). i % k) kept2.modules, ran3 i counts);
             is = (fault, refl);
           }
 

@@ -1,8 +1,8 @@
 -- The course of a run on a bank, by what the bank refuses, and what the bank shows of it.
-use Rattle.std.specs.Prelude.{◌≡◌, ℕ, List, Some, None}
+use Rattle.std.specs.Prelude.{◌≡◌, ℕ, Some, None}
 use Rattle.std.specs.Option.{option_map}
 use Rattle.std.specs.declared.option.Option.{Option}
-use Rattle.strand_modules.specs.Bank.{BankSeen, Keeps, Refuses, fill_refused, store_refused, read_refused}
+use Rattle.strand_modules.specs.Bank.{BankSeen, Keeps, Quiet, Refuses, fill_refused, store_refused, read_refused}
 use Rattle.strand_modules.specs.declared.refusals.Refusals.{Refusals}
 use Rattle.strand_rules.specs.declared.turn.StepFault.{StepFault}
 
@@ -13,16 +13,14 @@ pub data Course : Type 0 where
   -- The image was run; the store of a step was refused, if one was, and then the read at the end, if it was.
   ran : (store : Option StepFault) (read : Option ℕ) → Course
 
--- what a bank counted: what each module refused, and its faults
-abbrev pub FaultCounts : Type 0
-FaultCounts = List Refusals × List ℕ
+-- No module refused, and no count of faults rose but at a copy that a migration missed.
+pub record NoneRefused (before after : BankSeen) : Type 0 where
+  pub refused : after.refused ≡ before.refused
+  pub quiet : Quiet before after
 
-abbrev pub fault_counts : BankSeen → FaultCounts
-fault_counts bank = (bank.refused, bank.faults)
-
--- module m refused, if one did; else there was neither a refusal nor a fault
+-- module m refused, if one did
 abbrev pub RefusedBy : (Refusals → Refusals) → BankSeen → BankSeen → Option ℕ → Type 0
-RefusedBy count before after None = fault_counts after ≡ fault_counts before
+RefusedBy count before after None = NoneRefused before after
 RefusedBy count before after (Some m) = Refuses count before after m
 
 -- the stores, and then the reads
