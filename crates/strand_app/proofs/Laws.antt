@@ -30,4 +30,4 @@ pub record Sound (r : Rule) (before : BankSeen) (W : Type 0) : Type 0 where
   pub answers : (found : r.Found) (way : r.Way) (after : BankSeen) (end : Status) (text : Text) → r.Allows found way → r.Puts found way after end text → MeetsRefusal (r.course_of way) → end ≡ status.ModuleFault
   pub holds : (found : r.Found) (way : r.Way) (after : BankSeen) → r.Leaves found way after → r.Holds found way after
   pub may : (found : r.Found) (after : BankSeen) → r.MayLeave found after → r.MayHold found after
-  pub counts : (way : r.Way) → (r.counted_from way).faults ≡ before.faults
+  pub counts : (way : r.Way) → r.counted_from way ≡ before

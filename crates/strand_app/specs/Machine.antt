@@ -1,5 +1,5 @@
 -- The rules of commands that step a machine.
-use Rattle.std.specs.Prelude.{◌≡◌, ℕ, ◌-◌, List, [], length, take, Some, None, IsSomeAnd}
+use Rattle.std.specs.Prelude.{◌≡◌, ℕ, ◌-◌, List, [], take, Some, None, IsSomeAnd}
 use Rattle.std.specs.declared.option.Option.{Option}
 use Rattle.strand_modules.specs.Bank.{BankSeen}
 use Rattle.strand_report.specs.FaultLines.{module_fault_line}
@@ -29,7 +29,7 @@ stepping_rule Found inputs_of heading Puts MeansNo names opens before = record {
   Way = Option Course;
   course_of = λ way. way;
   counted_from = λ way. before;
-  Allows = λ found way. IsSomeAnd way (Allows (length before.faults) (inputs_of found));
+  Allows = λ found way. IsSomeAnd way (Allows before.modules (inputs_of found));
   Puts = λ found way after end text. IsSomeAnd way (λ b. Puts found before b end text);
   heading = heading;
   Leaves = λ found way after. IsSomeAnd way (λ b. Leaves (inputs_of found) b before after);
