@@ -12,8 +12,8 @@ use Rattle.strand_rules.specs.declared.turn.Turn.{Turn}
 use Rattle.strand_rules.specs.declared.turn.Turn.TheVariants.{Done, Bubble, Fault}
 use Rattle.strand_rules.proofs.Retire.Trace.{retired_trace}
 use Rattle.strand_rules.proofs.Visible.{run_seen}
-use Rattle.strand_run.specs.Inputs.{Inputs}
-use Rattle.strand_run.specs.Seen.{visible_after}
+use Rattle.strand_again.specs.Inputs.{Inputs}
+use Rattle.strand_again.specs.Seen.{visible_after}
 
 -- at most one event more
 abbrev GrowsByOne : State → State → Type 0

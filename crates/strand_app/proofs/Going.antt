@@ -277,7 +277,7 @@ module _ (parts : Parts) where
               kept_first = gone_on.kept;
               kept_second = keeps_same b2;
               first = subst (λ (f : Option StepFault). RefusedBy store_refused before b2 (module_of f)) (sym (last_more going.made g)) (refused_on o.fault run_on.refused);
-              second = refl;
+              second = unrefused b2 b2 refl refl;
             };
             leaves = gone_on;
             puts = (status ∙ tells.end ∙ sym (end_is g) ∙ sym (end_more going.made g), gone_on.each, subst (TellsAll parts 1 (going.made ++ g ∷ [])) (sym text_is) told_on);
@@ -304,7 +304,7 @@ module _ (parts : Parts) where
           kept_first = going.gone.kept;
           kept_second = keeps_same b1;
           first = subst (λ (f : Option StepFault). RefusedBy store_refused before b1 (module_of f)) (sym (last_going going.made going.on)) going.same;
-          second = refl;
+          second = unrefused b1 b1 refl refl;
         };
         leaves = going.gone;
         puts = (status ∙ sym (end_going going.made going.on), going.gone.each, subst (TellsAll parts 1 going.made) (sym text_is) going.told);
