@@ -98,7 +98,8 @@ def padded(text, most):
 def largest_image():
     """An image with as much of everything as there may be. It stores to a word, joins, loads it many times, and stores again."""
     begin = assembler.assemble(b"lui x2, 0x40000\naddi x1, x1, 1\nsd x1, 0(x2)\njoinstrand\n.persist\n.word 0").code
-    load, *end = assembler.assemble(b"ld x4, 0(x2)\naddi x1, x1, 1\nsd x1, 0(x2)\npersistbarrier\njoinstrand\nebreak\n.persist\n.word 0").code
+    load, *end = assembler.assemble(b"ld x4, 0(x2)\naddi x1, x1, 1\nsd x1, 0(x2)\npersistbarrier\njoinstrand\nebreak\n"
+                                    b".persist\n.word 0").code
     most = dict((name, high) for name, _, high in formats.QUANTITIES)
     code = [*begin, *[load] * LOADS, *end]
     symbols = [formats.Symbol(2, place, b"word_%059d" % place) for place in range(NAMED)]

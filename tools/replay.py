@@ -39,8 +39,8 @@ class Run:
         self.bubbles = runs.bubbles_of(self.report)
         self.cores = runs.cores_of(self.report)
         self.lives = [life for _, life in self.cores]
-        read = inputs.read("image", image)
-        self.names, self.seen = names.Names(read), visible.Visible(read, self.settings["sets"], self.settings["ways"])
+        self.image = inputs.read("image", image)
+        self.names, self.seen = names.Names(self.image), visible.Visible(self.image, self.settings["sets"], self.settings["ways"])
         self.events = [Event(line.split()[2:]) for line in self.ask("trace", stop, runs.EDGES)]
         self.turns, self.other, self.made = turns.Machine(len(self.cores), self.settings), [], 0
         self.persists = [event for event in self.events if event.persist is not None]
