@@ -15,14 +15,14 @@ PERSISTENT = names.BASES[2]
 
 
 class Event(turns.Event):
-    """An event of the trace, by its line: with its value, and the step that made it."""
+    """An event of the trace, by its line: with its value, the step that made it, and where its instruction stands."""
 
     def __init__(self, words):
         kind = words[0]
         super().__init__(kind, int(words[1]), int(words[2], 16) if kind in ("load", "store") else None,
                          int(words[5]) if len(words) == 6 else None)
         self.value = int(words[3 if kind == "store" else 2], 16) if kind in ("store", "out") else None
-        self.step = None
+        self.step = self.place = None
 
 
 class Run:
@@ -92,7 +92,9 @@ def retire(run, step, number):
     if kind is None:
         run.other.append((step, number, text_at(seen, place)))
         return None
-    return compare(run, step, run.turns.retire(next_of_trace(run, step, number, kind, word)))
+    event = next_of_trace(run, step, number, kind, word)
+    event.place = place
+    return compare(run, step, run.turns.retire(event))
 
 
 def replay(run):
