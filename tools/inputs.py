@@ -34,7 +34,8 @@ def stop(message, status=1):
 
 
 def answered(work):
-    """Does a tool's work and ends with its status. An output that can't be written and Ctrl-C end it without a trace of calls."""
+    """Does a tool's work and ends with its status. An output that can't be written ends it with a line, one that nobody reads any more
+    with none, and Ctrl-C too."""
     try:
         status = work()
         sys.stdout.flush()
@@ -47,7 +48,9 @@ def answered(work):
     else:
         sys.exit(status)
     os.dup2(os.open(os.devnull, os.O_WRONLY), sys.stdout.fileno())
-    stop("nobody reads the output" if status is None else f"{status.filename or 'the output'}: {why_unread(status)}", 5)
+    if status is not None:
+        say(f"{status.filename or 'the output'}: {why_unread(status)}")
+    sys.exit(5)
 
 
 class Words(argparse.ArgumentParser):
