@@ -2,10 +2,11 @@
 import html
 import os
 
+import inputs
 import names
 
 LABELS = 270  # the width of the names of lanes, at least
-LONGEST = 48  # letters of a persist's name in its lane
+LONGEST = 26  # letters of a word's name in a lane
 LETTER = 7  # the width of a letter, at most
 SCREEN = 1050  # the width that up to 200 steps fill
 BEHIND = 70  # room behind the last step, for the cause of a bubble there
@@ -128,14 +129,20 @@ def bubble_lane(picture, bubbles, label):
     picture.height += 22 + 11 * sum(begin > 0 for begin in free)
 
 
+def cut(name):
+    """A word's name as a lane has it: of a long one the front, and what is behind it."""
+    symbol, plus, behind = name.partition("+")
+    return name if len(name) <= LONGEST else f"{symbol[:LONGEST - len(plus + behind) - 2]}..{plus}{behind}"
+
+
 def persist_lane(picture, event, middles):
     """A persist's lane: a bar for each place where it stayed."""
     y, is_bold = picture.height + 8, event.persist in picture.run.chain
     middles[event.persist] = y
     times = [event.step, *event.moves, picture.steps + 1]
     strand = f" strand {event.strand}" if picture.run.settings["mode"] == "strand" else ""
-    text, name = f"{event.persist}: {picture.run.names.short(event.word)} = {digits(event.value)}", name_of(picture.run, event)
-    picture.name((text if len(text) <= LONGEST else text[:LONGEST] + "..") + strand, y, 14, is_bold, name)
+    text, name = f"{event.persist}: {cut(picture.run.names.short(event.word))} = {digits(event.value)}", name_of(picture.run, event)
+    picture.name(text + strand, y, 14, is_bold, name)
     for (_, place, colour), begin, end in zip(PLACES, times, times[1:]):
         last = "the end" if end > picture.steps else f"step {end}"
         picture.back.append(tag("rect", f"{name}: {place} from step {begin} to {last}", x=picture.left(begin),
@@ -193,7 +200,7 @@ def drawn(run):
 
 def files(run):
     """The names of the files that a run is of."""
-    machine, image, schedule = map(os.path.basename, run.words)
+    machine, image, schedule = (inputs.printable(os.path.basename(name)) for name in run.words)
     return f"{image} by {schedule} on {machine}"
 
 
