@@ -9,6 +9,7 @@ const centers = placed.map(part => {
     const box = part.getBBox();
     return box.x + box.width / 2;
 });
+const room = 24; // for the last step's number
 let zoom = 1;
 
 // Shows steps so many times as wide as at first. What is as wide as its steps is stretched, and marks and texts are moved.
@@ -17,8 +18,8 @@ function stretch(wanted) {
     zoom = Math.min(40 / data.step, Math.max(0.002, wanted));
     const far = [1, 2, 5, 10, 20, 50, 100, 200, 500, 1000, 2000, 5000].find(count => count * data.step * zoom >= 40) || 10000;
     for (const part of [numbers, lanes]) {
-        part.setAttribute("width", width * zoom);
-        part.setAttribute("viewBox", part.getAttribute("viewBox").replace(/^0 (\S+) \S+/, `0 $1 ${width * zoom}`));
+        part.setAttribute("width", width * zoom + room);
+        part.setAttribute("viewBox", part.getAttribute("viewBox").replace(/^0 (\S+) \S+/, `0 $1 ${width * zoom + room}`));
     }
     document.querySelector(".scaled").setAttribute("transform", `scale(${zoom} 1)`);
     placed.forEach((part, at) => {
@@ -70,7 +71,7 @@ function go(step) {
 }
 
 function fit() {
-    stretch((scroller.clientWidth - document.querySelector(".run svg").clientWidth - 4) / width);
+    stretch((scroller.clientWidth - document.querySelector(".run svg").clientWidth - room - 4) / width);
 }
 
 slider.max = data.steps;

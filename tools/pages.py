@@ -9,7 +9,7 @@ from pictures import TOP, element, escaped, files, heading, legend
 
 SCRIPT = os.path.join(os.path.dirname(os.path.realpath(__file__)), "page.js")
 STYLE = """body { font-family: sans-serif; background: #fff; margin: 12px } h1 { font-size: 15px; margin: 4px 0 }
-svg { display: block; background: #fff } .run { overflow: auto; max-height: calc(100vh - 330px); border: 1px solid #ddd }
+svg { display: block; background: #fff } .run { overflow: auto; max-height: max(280px, calc(100vh - 330px)); border: 1px solid #ddd }
 .row { display: flex; width: max-content } .row > :first-child { position: sticky; left: 0; z-index: 1 }
 .top { position: sticky; top: 0; z-index: 2 } .scaled * { vector-effect: non-scaling-stroke }
 #steps { width: 50vw; vertical-align: middle } #asked { width: 98%; font-family: monospace }
