@@ -78,6 +78,8 @@ def try_tool(check, tool, path, files, bad):
         note(check, f"{shown} --no-such-word", called, is_one_line(shown, called, 2))
     for at, word in enumerate(CALLS[tool].split()):
         for name, file in bad.items() if word in PLACES else ():
+            if word == "PROGRAM" and name in ("bytes", "endless"):
+                continue  # which nothing reads
             words = words_of(tool, files)
             words[at] = file
             called = calls.call([path, *asking, *words])
@@ -98,7 +100,8 @@ def padded(text, most):
 def largest_image():
     """An image with as much of everything as there may be. It stores to a word, joins, loads it many times, and stores again."""
     begin = assembler.assemble(b"lui x2, 0x40000\naddi x1, x1, 1\nsd x1, 0(x2)\njoinstrand\n.persist\n.word 0").code
-    load, *end = assembler.assemble(b"ld x4, 0(x2)\naddi x1, x1, 1\nsd x1, 0(x2)\npersistbarrier\njoinstrand\nebreak\n.persist\n.word 0").code
+    load, *end = assembler.assemble(b"ld x4, 0(x2)\naddi x1, x1, 1\nsd x1, 0(x2)\npersistbarrier\njoinstrand\nebreak\n"
+                                    b".persist\n.word 0").code
     most = dict((name, high) for name, _, high in formats.QUANTITIES)
     code = [*begin, *[load] * LOADS, *end]
     symbols = [formats.Symbol(2, place, b"word_%059d" % place) for place in range(NAMED)]
