@@ -1,17 +1,18 @@
 -- Serves each clause of strand_main but runs and no_command, by what each answer of its rule means.
 use Rattle.std.proofs.Common.{◌≡◌, ◌++◌, ◌∷◌, [], append-nil, ℕ, Bool, true, false, List, refl, sym, ap, ◌∙◌, arith, inl, inr, subst}
-use Rattle.std.specs.Prelude.{◌≢◌, ◌⊎◌, Some, None, Ok, Err, IsSomeAnd, IsSome, slice_index}
+use Rattle.std.specs.Prelude.{◌≢◌, ◌⊎◌, Some, None, Ok, Err, IsSomeAnd, IsSome}
 use Rattle.std.specs.declared.option.Option.{Option}
 use Rattle.std.specs.declared.result.Result.{Result}
-use Rattle.strand_base.specs.Counts.{Rose}
 use Rattle.std.proofs.lemmas.Option.{same_Some}
 use Rattle.strand_base.specs.FilesSeen.{Held}
 use Rattle.strand_base.specs.SinkSeen.{SinkSeen, Takes, TakesAll}
-use Rattle.strand_modules.specs.Bank.{BankSeen}
+use Rattle.strand_modules.specs.Bank.{BankSeen, Quiet, SumRose}
+use Rattle.strand_modules.proofs.FrontWords.{rose_after, rose_before}
+use Rattle.strand_modules.proofs.Quiet.{quiet_still, quiet_trans}
 use Rattle.strand_report.specs.Refusals.{refusal_line, content_is_limit}
 use Rattle.strand_report.specs.declared.refusal.Refusal.{Refusal}
 use Rattle.strand_report.specs.declared.refusal.Refusal.TheVariants as refusal
-use Rattle.strand_run.specs.Fault.{Course, FaultCounts, fill, ran}
+use Rattle.strand_run.specs.Fault.{Course, fill, ran}
 use Rattle.strand_app.specs.declared.status.Status.{Status}
 use Rattle.strand_app.specs.declared.status.Status.TheVariants as status
 use Rattle.strand_app.specs.Answers.{content_status, refusal_status}
@@ -71,21 +72,21 @@ says_one told names reads one other a b (inr none) first second =
     let same : one ≡ other = no_contents told names one none first.first ∙ sym (no_contents told names other none second.first) in
     ap (λ (r : Reads _). r.result) (sym (first.is []) ∙ ap (λ (c : Contents). reads (c ++ [])) same ∙ second.is [])
 
--- where no module refused anything, no count of faults rose
-unrisen : (before after : BankSeen) (f : Option Course) → ShownBy before after f → (MeetsRefusal f → ⊥) → after.faults ≡ before.faults
-unrisen before after None shown none = ap (λ (b : BankSeen). b.faults) shown
+-- where no module refused anything, no count of faults rose, but where a copy was missed
+unrisen : (before after : BankSeen) (f : Option Course) → ShownBy before after f → (MeetsRefusal f → ⊥) → Quiet before after
+unrisen before after None shown none = quiet_still before after (ap (λ (b : BankSeen). b.faults) shown)
 unrisen before after (Some (fill m)) shown none = absurd (none tt)
 unrisen before after (Some (ran store (Some n))) shown none = absurd (none tt)
 unrisen before after (Some (ran (Some f) None)) shown none = absurd (none tt)
-unrisen before after (Some (ran None None)) shown none = ap (λ (counts : FaultCounts). counts.1) (shown.second ∙ shown.first)
+unrisen before after (Some (ran None None)) shown none = quiet_trans before shown.between after shown.kept_first shown.kept_second shown.first.quiet shown.second.quiet
 
--- a bank whose counts stay refused nothing
-unrefused : (heading : Text) (before after : BankSeen) (f : Option Course) (text : Text) → ((k : ℕ) → Rose (slice_index before.faults k) (slice_index after.faults k) → ⊥) → ShownBy before after f
+-- a bank whose counts did not rise refused nothing
+unrefused : (heading : Text) (before after : BankSeen) (f : Option Course) (text : Text) → (SumRose before.faults after.faults → ⊥) → ShownBy before after f
     → IsSomeAnd f (λ b. TellsRefusal heading b text) → ⊥
 unrefused heading before after None text quiet shown tells = tells
-unrefused heading before after (Some (fill m)) text quiet shown tells = quiet m shown.rose
-unrefused heading before after (Some (ran store (Some n))) text quiet shown tells = quiet n (omega (arith, shown.second.rose, shown.kept_first.later n))
-unrefused heading before after (Some (ran (Some f) None)) text quiet shown tells = quiet f.«module» (omega (arith, shown.first.rose, shown.kept_second.later f.«module»))
+unrefused heading before after (Some (fill m)) text quiet shown tells = quiet shown.rose
+unrefused heading before after (Some (ran store (Some n))) text quiet shown tells = quiet (rose_before before shown.between after shown.kept_first shown.second.rose)
+unrefused heading before after (Some (ran (Some f) None)) text quiet shown tells = quiet (rose_after before shown.between after shown.kept_second shown.first.rose)
 unrefused heading before after (Some (ran None None)) text quiet shown tells = tells
 
 module _ (r : Rule) (W : Type 0) (sound : Sound r W) (before after : Outside) where

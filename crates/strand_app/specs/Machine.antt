@@ -1,5 +1,5 @@
 -- The rules of commands that step a machine.
-use Rattle.std.specs.Prelude.{◌≡◌, ℕ, ◌-◌, List, [], length, take, Some, None, IsSomeAnd}
+use Rattle.std.specs.Prelude.{◌≡◌, ℕ, ◌-◌, List, [], take, Some, None, IsSomeAnd}
 use Rattle.strand_modules.specs.Bank.{BankSeen}
 use Rattle.strand_report.specs.FaultLines.{module_fault_line}
 use Rattle.strand_run.specs.Allowed.{LeavesAllowed, MayLeaveAllowed}
@@ -25,7 +25,7 @@ stepping_rule Found inputs_of heading Puts Refutes names opens before = record {
   names = names;
   Found = Found;
   opens = opens;
-  Allows = λ found fault. IsSomeAnd fault (Allows (length before.faults) (inputs_of found));
+  Allows = λ found fault. IsSomeAnd fault (Allows before.modules (inputs_of found));
   Puts = λ found fault end text. IsSomeAnd fault (λ b. Puts found before b end text);
   heading = heading;
   Leaves = λ found fault after. IsSomeAnd fault (λ b. Leaves (inputs_of found) b before after);
