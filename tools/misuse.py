@@ -22,6 +22,7 @@ CALLS = {"schedule": "lazy --for MACHINE IMAGE", "sweep": "eager MACHINE IMAGE",
          "explain": "PROGRAM 3", "install": "FOLDER PROGRAM", "write-to": "PROGRAM -o FOLDER",
          **dict.fromkeys(("check-allocations", "check-tests", "first-call", "gate-times", "kept-program", "prove", "try-edits"), "")}
 PLACES = ("MACHINE", "IMAGE", "SCHEDULE", "CRASH", "CERT", "TRACE", "REPORT", "PROGRAM")
+BAD = ("none", "folder", "text", "bytes", "endless")
 ASKING = ("schedule", "sweep", "timeline", "why")  # which ask a program
 TELLER = """#!/bin/sh
 case $1 in run) cat "{REPORT}" ;; trace) cat "{TRACE}" ;; refute) cat "{REFUTED}" ;; check) echo accepted ;; esac
@@ -86,9 +87,9 @@ def try_tool(check, tool, path, files, bad):
             note(check, f"{shown} {' '.join(words)}: {name} for {word}", called, is_one_line(shown, called))
 
 
-def try_tools(check, program, tools, folder):
-    """All these tools, by their names."""
-    files, bad = make_files(program, folder), make_bad(folder)
+def try_tools(check, program, tools, folder, kinds=BAD):
+    """All these tools, by their names, with these kinds of bad files."""
+    files, bad = make_files(program, folder), {name: file for name, file in make_bad(folder).items() if name in kinds}
     checks.for_each(lambda tool: try_tool(check, tool, tools[tool], files, bad), tools)
 
 
