@@ -1,11 +1,12 @@
 -- Serves ModuleBank::fill, read_all and replace: words stored one after the other in front of others.
-use Rattle.std.proofs.Common.{◌≡◌, ℕ, zero, suc, ◌+◌, ◌<◌, ◌≤◌, List, [], ◌∷◌, ◌++◌, length, take, drop, get_or, set, arith, refl, ap, ◌∙◌, add-one, length-append, length-set}
+use Rattle.std.proofs.Common.{◌≡◌, ℕ, zero, suc, ◌+◌, ◌<◌, List, [], ◌∷◌, ◌++◌, length, take, drop, get_or, set, arith, refl, ap, sym, ◌∙◌, inl, inr, add-one, length-append, length-set}
 use Rattle.std.proofs.lemmas.List.{length-take}
 use Rattle.std.specs.Prelude.{None, Some, IfSome}
 use Rattle.std.specs.declared.option.Option.{Option}
 use Rattle.strand_base.specs.ModuleSeen.{written}
 use Rattle.strand_modules.specs.declared.refusals.Refusals.{Refusals}
-use Rattle.strand_modules.specs.Bank.{BankSeen, Keeps, Refuses, front_written}
+use Rattle.strand_modules.specs.Bank.{BankSeen, Keeps, Refuses, SumRose, front_written}
+use Rattle.strand_modules.specs.Objects.{MigrationSeen}
 
 front_set : (xs ws : List ℕ) (i : ℕ) → i < length xs → i < length (take i xs ++ drop (length (take i xs)) ws)
     → set (take i xs ++ drop (length (take i xs)) ws) i (get_or xs i 0) ≡ take (suc i) xs ++ drop (length (take (suc i) xs)) ws
@@ -38,12 +39,47 @@ written_front xs (Some ws) i v lt = ap Some (rw (length-set xs i v) (set_front x
     set_front (x ∷ xs) ys (suc i) v lt = ap (λ (l : List ℕ). x ∷ l) (set_front xs ys i v (omega arith))
 
 pub keeps_same : (bank : BankSeen) → Keeps bank bank
-keeps_same bank = record { size = refl; sizes = refl; count = refl; later = λ k. omega arith }
+keeps_same bank = record {
+  size = refl;
+  modules = refl;
+  module_size = refl;
+  objects = refl;
+  one_size = λ all. all;
+  later = omega arith;
+  last = λ last. last;
+  own = λ none k. omega arith;
+  idle = λ none. refl;
+  missed = omega arith;
+}
 
 pub keeps_trans : (a b c : BankSeen) → Keeps a b → Keeps b c → Keeps a c
-keeps_trans a b c first second = record { size = second.size ∙ first.size; sizes = second.sizes ∙ first.sizes; count = second.count ∙ first.count; later = λ k. omega (arith, first.later k, second.later k) }
+keeps_trans a b c first second = record {
+  size = second.size ∙ first.size;
+  modules = second.modules ∙ first.modules;
+  module_size = second.module_size ∙ first.module_size;
+  objects = second.objects ∙ first.objects;
+  one_size = λ all. second.one_size (first.one_size all);
+  later = omega (arith, first.later, second.later);
+  last = λ last. second.last (first.last last);
+  own = λ none k. omega (arith, first.own none k, second.own (first.objects ∙ none ∙ sym first.modules) k);
+  idle = λ none. second.idle (ap (λ (m : MigrationSeen). m.running) (first.idle none) ∙ none) ∙ first.idle none;
+  missed = omega (arith, first.missed, second.missed);
+}
 
--- a refusal after calls that were accepted
+-- The counts have risen over two calls where they have in the second, or in the first.
+pub rose_before : (a b c : BankSeen) → Keeps a b → SumRose b.faults c.faults → SumRose a.faults c.faults
+rose_before a b c kept (inl lt) = inl (omega (arith, kept.later, lt))
+rose_before a b c kept (inr last) = inr last
+
+pub rose_after : (a b c : BankSeen) → Keeps b c → SumRose a.faults b.faults → SumRose a.faults c.faults
+rose_after a b c kept (inl lt) = inl (omega (arith, kept.later, lt))
+rose_after a b c kept (inr last) = inr (kept.last last)
+
+-- a refusal after other calls
 pub refuses_after : (count : Refusals → Refusals) (a b c : BankSeen) (k : ℕ) → Keeps a b → b.refused ≡ a.refused → Refuses count b c k → Refuses count a c k
-refuses_after count a b c k kept same refuses =
-    record { exists = omega (arith, refuses.exists, kept.count); counted = rw same at refuses.counted; rose = omega (arith, refuses.rose, kept.later k) }
+refuses_after count a b c k kept same refuses = record {
+  exists = omega (arith, refuses.exists, kept.modules);
+  counted = rw same at refuses.counted;
+  rose = rose_before a b c kept refuses.rose;
+  own = λ none. omega (arith, refuses.own (kept.objects ∙ none ∙ sym kept.modules), kept.own none k);
+}

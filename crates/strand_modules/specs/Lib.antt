@@ -1,9 +1,14 @@
+pub mod Objects
 pub mod ModuleWords
+pub mod NextCopies
 pub mod Bank
 pub mod Reading
+pub mod MigrationProgress
 pub mod Founded
 pub mod Replacing
 pub mod Copying
+pub mod Transfer
+pub mod Spare
 pub mod Seen
 pub mod Here
 pub mod RamModuleSeen

@@ -7,15 +7,19 @@ mod calls;
 mod copying;
 mod faults;
 mod founding;
+mod migration;
+mod objects;
 mod parts;
 mod ram_module;
 mod refusals;
 mod replacing;
-#[cfg(test)]
-mod tests;
+mod spare;
+mod transfer;
 
 pub use accepted::Accepted;
 pub use bank::{MOST_MODULES, ModuleBank};
-pub use faults::{BankFault, ReadAllFault, Refused, ReplaceFault};
+pub use faults::{
+    BankFault, BeginFault, ReadAllFault, Refused, ReplaceFault, SpareFault, SpareRefused,
+};
 pub use ram_module::RamModule;
 pub use refusals::{AtModule, Refusals};
