@@ -188,5 +188,6 @@ module _ (machine image : List ℕ) (pairs : List Pair) (before : BankSeen) (W :
     answers = λ found way after end text allowed puts meets. of_answers found way end text puts meets;
     holds = of_leaves;
     may = of_may;
-    counts = λ way. refl;
+    rose = λ way after rose. rose;
+    quiet = λ way after quiet. quiet;
   }

@@ -7,11 +7,12 @@ use Rattle.strand_base.specs.Counts.{Rose}
 use Rattle.std.proofs.lemmas.Option.{same_Some}
 use Rattle.strand_base.specs.FilesSeen.{Held}
 use Rattle.strand_base.specs.SinkSeen.{SinkSeen, Takes, TakesAll}
-use Rattle.strand_modules.specs.Bank.{BankSeen}
+use Rattle.strand_modules.specs.Bank.{BankSeen, Quiet, SumRose}
+use Rattle.strand_modules.proofs.FrontWords.{rose_after, rose_before}
+use Rattle.strand_modules.proofs.Quiet.{quiet_still, quiet_trans}
 use Rattle.strand_report.specs.Refusals.{refusal_line, content_is_limit}
 use Rattle.strand_report.specs.declared.refusal.Refusal.{Refusal}
 use Rattle.strand_report.specs.declared.refusal.Refusal.TheVariants as refusal
-use Rattle.strand_again.specs.Stepping.{FaultCounts}
 use Rattle.strand_run.specs.Fault.{Course, fill, ran}
 use Rattle.strand_app.specs.declared.status.Status.{Status}
 use Rattle.strand_app.specs.declared.status.Status.TheVariants as status
@@ -72,21 +73,20 @@ says_one told names reads one other a b (inr none) first second =
     let same : one ≡ other = no_contents told names one none first.first ∙ sym (no_contents told names other none second.first) in
     ap (λ (r : Reads _). r.result) (sym (first.is []) ∙ ap (λ (c : Contents). reads (c ++ [])) same ∙ second.is [])
 
--- where no module refused anything, no count of faults rose
-unrisen : (before after : BankSeen) (f : Option Course) → ShownBy before after f → (MeetsRefusal f → ⊥) → after.faults ≡ before.faults
-unrisen before after None shown none = ap (λ (b : BankSeen). b.faults) shown
+-- where no module refused anything, no count of faults rose but at a copy that was missed
+unrisen : (before after : BankSeen) (f : Option Course) → ShownBy before after f → (MeetsRefusal f → ⊥) → Quiet before after
+unrisen before after None shown none = quiet_still before after (ap (λ (b : BankSeen). b.faults) shown)
 unrisen before after (Some (fill m)) shown none = absurd (none tt)
 unrisen before after (Some (ran store (Some n))) shown none = absurd (none tt)
 unrisen before after (Some (ran (Some f) None)) shown none = absurd (none tt)
-unrisen before after (Some (ran None None)) shown none = ap (λ (counts : FaultCounts). counts.1) (shown.second ∙ shown.first)
+unrisen before after (Some (ran None None)) shown none = quiet_trans before shown.between after shown.kept_first shown.kept_second shown.first.quiet shown.second.quiet
 
 -- a bank whose counts stay refused nothing
-unrefused : (heading : Text) (before after : BankSeen) (f : Option Course) (text : Text) → ((k : ℕ) → Rose (slice_index before.faults k) (slice_index after.faults k) → ⊥) → ShownBy before after f
-    → IsSomeAnd f (λ b. TellsRefusal heading b text) → ⊥
+unrefused : (heading : Text) (before after : BankSeen) (f : Option Course) (text : Text) → (SumRose before.faults after.faults → ⊥) → ShownBy before after f → IsSomeAnd f (λ b. TellsRefusal heading b text) → ⊥
 unrefused heading before after None text quiet shown tells = tells
-unrefused heading before after (Some (fill m)) text quiet shown tells = quiet m shown.rose
-unrefused heading before after (Some (ran store (Some n))) text quiet shown tells = quiet n (omega (arith, shown.second.rose, shown.kept_first.later n))
-unrefused heading before after (Some (ran (Some f) None)) text quiet shown tells = quiet f.«module» (omega (arith, shown.first.rose, shown.kept_second.later f.«module»))
+unrefused heading before after (Some (fill m)) text quiet shown tells = quiet shown.rose
+unrefused heading before after (Some (ran store (Some n))) text quiet shown tells = quiet (rose_before before shown.between after shown.kept_first shown.second.rose)
+unrefused heading before after (Some (ran (Some f) None)) text quiet shown tells = quiet (rose_after before shown.between after shown.kept_second shown.first.rose)
 unrefused heading before after (Some (ran None None)) text quiet shown tells = tells
 
 module _ (r : Rule) (W : Type 0) (before : Outside) (sound : Sound r before.world.bank W) (after : Outside) where
@@ -265,15 +265,15 @@ module _ (r : Rule) (W : Type 0) (before : Outside) (sound : Sound r before.worl
         go text (inr (inl refuses)) = refuses.opened.fetched.quiet
         go text (inr (inr misses)) = absurd (other misses.status)
 
-    pub no_module_fault : IsPutWhole result → result ≢ status.ModuleFault → after.world.bank.faults ≡ before.world.bank.faults
+    pub no_module_fault : IsPutWhole result → result ≢ status.ModuleFault → Quiet before.world.bank after.world.bank
     no_module_fault whole other = let c = came result whole.1 whole.0 runs in go c.text c.made
       where
-        go : (text : Text) → ComesTo r before.world after.world result text → after.world.bank.faults ≡ before.world.bank.faults
+        go : (text : Text) → ComesTo r before.world after.world result text → Quiet before.world.bank after.world.bank
         go text (inl made) =
-            unrisen (r.counted_from made.way) after.world.bank (r.course_of made.way) made.shown (λ meets. other (sound.answers made.found made.way after.world.bank result text made.allowed made.puts meets))
-            ∙ sound.counts made.way
-        go text (inr (inl refuses)) = ap (λ (b : BankSeen). b.faults) refuses.same
-        go text (inr (inr misses)) = ap (λ (b : BankSeen). b.faults) misses.same
+            sound.quiet made.way after.world.bank
+            (unrisen (r.counted_from made.way) after.world.bank (r.course_of made.way) made.shown (λ meets. other (sound.answers made.found made.way after.world.bank result text made.allowed made.puts meets)))
+        go text (inr (inl refuses)) = quiet_still before.world.bank after.world.bank (ap (λ (b : BankSeen). b.faults) refuses.same)
+        go text (inr (inr misses)) = quiet_still before.world.bank after.world.bank (ap (λ (b : BankSeen). b.faults) misses.same)
 
   pub holds_of : (result : Status) → Runs r before after result → Holds r before after result
   holds_of result (inl up) = go up.stops
@@ -318,8 +318,8 @@ module _ (r : Rule) (W : Type 0) (before : Outside) (sound : Sound r before.worl
     answered status.Ok text made means = inl refl
     answered status.No text made means = inr refl
     answered status.Words text made means = absurd (is_command means)
-    answered status.ModuleFault text made means = absurd (unrefused r.heading (r.counted_from made.way) after.world.bank (r.course_of made.way) text
-        (subst (λ (faults : List ℕ). (k : ℕ) → Rose (slice_index faults k) (slice_index after.world.bank.faults k) → ⊥) (sym (sound.counts made.way)) quiet.bank) made.shown means)
+    answered status.ModuleFault text made means =
+        absurd (unrefused r.heading (r.counted_from made.way) after.world.bank (r.course_of made.way) text (λ rose. quiet.bank (sound.rose made.way after.world.bank rose)) made.shown means)
     answered _ text made means = absurd means
 
     is_told : (end : Status) → IsAnswer end → IsTold end

@@ -9,8 +9,9 @@ use Rattle.strand_again.specs.Generations.{AreGenerations, Generation, HaveGone,
 use Rattle.strand_again.specs.Inputs.{Inputs, inputs_from}
 use Rattle.strand_again.specs.Outcome.{IsLeast, IsOutOfMemory, IsRun, IsStoreOf, IsUnread, RefusedBy, module_of}
 use Rattle.strand_again.specs.Seen.{StartsWith}
-use Rattle.strand_again.specs.Stepping.{FaultCounts, fault_counts, steps_made}
+use Rattle.strand_again.specs.Stepping.{NoneRefused, steps_made}
 use Rattle.strand_again.proofs.HaveGone.{gone_more, gone_none, next_starts, words_long, words_more}
+use Rattle.strand_again.proofs.MakeSteps.{unrefused, unrefused_then}
 use Rattle.strand_again.proofs.RunSteps.{stopped_behind}
 use Rattle.strand_inputs.specs.declared.step.Step.{Step}
 use Rattle.strand_judge.specs.declared.verdict.Verdict.{Verdict}
@@ -116,7 +117,7 @@ module _ (parts : Parts) where
       )
 
   module _ (before : BankSeen) where
-    stores_more : (made : List Generation) (g : Generation) → AreStores parts before made → IsStoreOf (inputs_of parts.config parts.image g) (length before.faults) g.fault → AreStores parts before (made ++ g ∷ [])
+    stores_more : (made : List Generation) (g : Generation) → AreStores parts before made → IsStoreOf (inputs_of parts.config parts.image g) before.modules g.fault → AreStores parts before (made ++ g ∷ [])
     stores_more [] g stores is = (is, tt)
     stores_more (x ∷ xs) g stores is = (stores.0, stores_more xs g stores.1 is)
 
@@ -127,7 +128,7 @@ module _ (parts : Parts) where
       pub gone : HaveGone parts.config parts.image before after parts.steps made
       pub on : AllGoOn made
       pub stores : AreStores parts before made
-      pub same : fault_counts after ≡ fault_counts before
+      pub same : NoneRefused before after
       pub told : TellsAll parts 1 made text
       pub start : next_start held parts.image ≡ words_behind parts.image.persistent made
 
@@ -157,7 +158,7 @@ module _ (parts : Parts) where
       gone = gone_none parts.config parts.image before after parts.steps fills;
       on = tt;
       stores = tt;
-      same = rw (fills.accepted, fills.quiet) refl;
+      same = unrefused before after fills.accepted fills.quiet;
       told = refl;
       start = refl;
     }
@@ -186,23 +187,23 @@ module _ (parts : Parts) where
               allowed = (
                 going.on,
                 omega (arith, lt, going.many),
-                subst (λ (n : ℕ). IsStoreOf (next_inputs parts going.made) n u.fault) going.gone.kept.count u.store,
-                omega (arith, u.second.exists, u.kept_first.count, going.gone.kept.count),
+                subst (λ (n : ℕ). IsStoreOf (next_inputs parts going.made) n u.fault) going.gone.kept.modules u.store,
+                omega (arith, u.second.exists, u.kept_first.modules, going.gone.kept.modules),
               );
               shown = record {
                 between = u.between;
                 kept_first = keeps_trans before b1 u.between going.gone.kept u.kept_first;
                 kept_second = u.kept_second;
-                first = refused_to u.between u.fault u.first;
+                first = refused_to u.between u.fault u.kept_first u.first;
                 second = u.second;
               };
               leaves = record { between = b1; gone = going.gone; next = u; store_is = refl };
               puts = (status, text_is);
             }
           where
-            refused_to : (b : BankSeen) (f : Option StepFault) → RefusedBy store_refused b1 b (module_of f) → RefusedBy store_refused before b (module_of f)
-            refused_to b None refused = refused ∙ going.same
-            refused_to b (Some f) refused = refuses_after store_refused before b1 b f.«module» going.gone.kept (ap (λ (c : FaultCounts). c.0) going.same) refused
+            refused_to : (b : BankSeen) (f : Option StepFault) → Keeps b1 b → RefusedBy store_refused b1 b (module_of f) → RefusedBy store_refused before b (module_of f)
+            refused_to b None kept refused = unrefused_then before b1 b going.gone.kept kept going.same refused
+            refused_to b (Some f) kept refused = refuses_after store_refused before b1 b f.«module» going.gone.kept going.same.refused refused
 
         -- no memory was left in the next one, or for the line of a refused read
         pub stops_next : IsOutOfMemory (inputs_from parts.config parts.image (next_start held parts.image) next) b1 b2 → MayLeaveBank parts before b2
@@ -227,8 +228,8 @@ module _ (parts : Parts) where
         gone_on = gone_more parts.config parts.image before b1 b2 parts.steps going.made going.gone next d within (is ∙ ap (λ (n : ℕ). get_or parts.steps n d) (sym going.many)) o.machine.machine o.turns o.held o.fault o.least
             run_on least_on kept
 
-        store_on : IsStoreOf (inputs_of parts.config parts.image g) (length before.faults) o.fault
-        store_on = subst (λ (n : ℕ). IsStoreOf (inputs_of parts.config parts.image g) n o.fault) going.gone.kept.count run_on.store
+        store_on : IsStoreOf (inputs_of parts.config parts.image g) before.modules o.fault
+        store_on = subst (λ (n : ℕ). IsStoreOf (inputs_of parts.config parts.image g) n o.fault) going.gone.kept.modules run_on.store
 
         module _ (text' : Text) (told : Told) (tells : TellsOutcome (number + 1) parts.config.mode o text text' told) where
           told_on : TellsAll parts 1 (going.made ++ g ∷ []) text'
@@ -253,18 +254,18 @@ module _ (parts : Parts) where
                 gone = gone_on;
                 on = go_on_more going.made g going.on (end_is g ∙ end);
                 stores = stores_more going.made g going.stores store_on;
-                same = quiet o.fault (none_of o.fault o.least end) run_on.refused ∙ going.same;
+                same = unrefused_then before b1 b2 going.gone.kept kept going.same (quiet o.fault (none_of o.fault o.least end) run_on.refused);
                 told = told_on;
                 start = tells.held ∙ sym (words_more parts.image.persistent going.made g);
               }
             where
-              quiet : (f : Option StepFault) → f ≡ None → RefusedBy store_refused b1 b2 (module_of f) → fault_counts b2 ≡ fault_counts b1
+              quiet : (f : Option StepFault) → f ≡ None → RefusedBy store_refused b1 b2 (module_of f) → NoneRefused b1 b2
               quiet None none refused = refused
               quiet (Some f) none refused = cc
 
           refused_on : (f : Option StepFault) → RefusedBy store_refused b1 b2 (module_of f) → RefusedBy store_refused before b2 (module_of f)
-          refused_on None refused = refused ∙ going.same
-          refused_on (Some f) refused = refuses_after store_refused before b1 b2 f.«module» going.gone.kept (ap (λ (c : FaultCounts). c.0) going.same) refused
+          refused_on None refused = unrefused_then before b1 b2 going.gone.kept kept going.same refused
+          refused_on (Some f) refused = refuses_after store_refused before b1 b2 f.«module» going.gone.kept going.same.refused refused
 
           -- the last one: a store was refused, or the judge said no
           pub ends_last : (told.end ≡ status.Ok → ⊥) → (made : Made) → made.status ≡ told.end → made.text.items ≡ text' → MakesWay parts before b2 made
@@ -276,7 +277,7 @@ module _ (parts : Parts) where
               kept_first = gone_on.kept;
               kept_second = keeps_same b2;
               first = subst (λ (f : Option StepFault). RefusedBy store_refused before b2 (module_of f)) (sym (last_more going.made g)) (refused_on o.fault run_on.refused);
-              second = refl;
+              second = unrefused b2 b2 refl refl;
             };
             leaves = gone_on;
             puts = (status ∙ tells.end ∙ sym (end_is g) ∙ sym (end_more going.made g), gone_on.each, subst (TellsAll parts 1 (going.made ++ g ∷ [])) (sym text_is) told_on);
@@ -303,7 +304,7 @@ module _ (parts : Parts) where
           kept_first = going.gone.kept;
           kept_second = keeps_same b1;
           first = subst (λ (f : Option StepFault). RefusedBy store_refused before b1 (module_of f)) (sym (last_going going.made going.on)) going.same;
-          second = refl;
+          second = unrefused b1 b1 refl refl;
         };
         leaves = going.gone;
         puts = (status ∙ sym (end_going going.made going.on), going.gone.each, subst (TellsAll parts 1 going.made) (sym text_is) going.told);

@@ -1,7 +1,7 @@
 -- Serves each clause of strand_main but runs and no_command: what every rule owes.
 use Rattle.std.specs.Prelude.{◌≡◌, None, Some, IsSomeAnd}
 use Rattle.std.specs.declared.option.Option.{Option}
-use Rattle.strand_modules.specs.Bank.{BankSeen}
+use Rattle.strand_modules.specs.Bank.{BankSeen, Quiet, SumRose}
 use Rattle.strand_run.specs.Fault.{Course, fill, ran}
 use Rattle.strand_app.specs.declared.status.Status.{Status}
 use Rattle.strand_app.specs.declared.status.Status.TheVariants as status
@@ -30,4 +30,6 @@ pub record Sound (r : Rule) (before : BankSeen) (W : Type 0) : Type 0 where
   pub answers : (found : r.Found) (way : r.Way) (after : BankSeen) (end : Status) (text : Text) → r.Allows found way → r.Puts found way after end text → MeetsRefusal (r.course_of way) → end ≡ status.ModuleFault
   pub holds : (found : r.Found) (way : r.Way) (after : BankSeen) → r.Leaves found way after → r.Holds found way after
   pub may : (found : r.Found) (after : BankSeen) → r.MayLeave found after → r.MayHold found after
-  pub counts : (way : r.Way) → (r.counted_from way).faults ≡ before.faults
+  -- what rose from where its counts go on rose from the bank at entry, and where none did there, none did from here
+  pub rose : (way : r.Way) (after : BankSeen) → SumRose (r.counted_from way).faults after.faults → SumRose before.faults after.faults
+  pub quiet : (way : r.Way) (after : BankSeen) → Quiet (r.counted_from way) after → Quiet before after

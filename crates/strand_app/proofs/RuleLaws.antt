@@ -48,7 +48,8 @@ no_command_sound before W w = record {
   answers = λ found f after end text allowed puts meets. absurd (meets_none f allowed meets);
   holds = λ found f after leaves. leaves;
   may = λ found after may. may;
-  counts = λ way. refl;
+  rose = λ way after rose. rose;
+  quiet = λ way after quiet. quiet;
 }
 
 still_sound : (Found : Type 0) (names : List (List ℕ)) (opens : Contents → Reads Found) (text_of : Found → Text) (before : BankSeen) (W : Type 0) → Sound (still_rule Found names opens text_of before) before W
@@ -57,7 +58,8 @@ still_sound Found names opens text_of before W = record {
   answers = λ found f after end text allowed puts meets. absurd (meets_none f allowed meets);
   holds = λ found f after leaves. leaves;
   may = λ found after may. may;
-  counts = λ way. refl;
+  rose = λ way after rose. rose;
+  quiet = λ way after quiet. quiet;
 }
 
 -- what each answer of a run means that met no refusal: it is ok, or a no with its refutation
@@ -81,7 +83,7 @@ module _ (Found : Type 0) (inputs_of : Found → Inputs) (heading : Text) (Puts 
 
   stepping_sound : ((found : Found) (b : Course) (end : Status) (text : Text) → Puts found before b end text → Means r W found (Some b) end text)
       → ((found : Found) (b : Course) (end : Status) (text : Text) → Puts found before b end text → MeetsRefusal (Some b) → end ≡ status.ModuleFault) → Sound r before W
-  stepping_sound means answers = record { means = of_puts; answers = of_answers; holds = of_leaves; may = λ found after may. may_leave_allowed (inputs_of found) before after may; counts = λ way. refl }
+  stepping_sound means answers = record { means = of_puts; answers = of_answers; holds = of_leaves; may = λ found after may. may_leave_allowed (inputs_of found) before after may; rose = λ way after rose. rose; quiet = λ way after quiet. quiet }
     where
       of_answers : (found : Found) (f : Option Course) (after : BankSeen) (end : Status) (text : Text) → r.Allows found f → r.Puts found f after end text → MeetsRefusal f → end ≡ status.ModuleFault
       of_answers found None after end text allowed puts meets = absurd puts

@@ -83,7 +83,7 @@ module _ (u : Inputs) (before after : BankSeen) where
 
   pub may_of : {T : Type 0} (result : Result T OutOfMemory) (end : RunEnd) → RunsTo u before after end → OnErr result (Keeps before after × MayLeave u before after)
   may_of (Ok x) end runs = tt
-  may_of (Err e) end runs = (runs.kept, may_leave u (length before.faults) runs.fault before after runs.allowed runs.leaves)
+  may_of (Err e) end runs = (runs.kept, may_leave u before.modules runs.fault before after runs.allowed runs.leaves)
 
   pub puts_whole : (Puts : Status → Text → Type 0) (r : Run) (made : Made) → RunsOnBank u before after (Whole r) → Puts made.status made.text.items → PutsOnBank u before after Puts made
   puts_whole Puts r made runs puts = record {
@@ -96,7 +96,7 @@ module _ (u : Inputs) (before after : BankSeen) where
   }
 
   pub may_on_bank : (result : Ran) → RunsOnBank u before after result → Keeps before after × MayLeave u before after
-  may_on_bank result runs = (runs.kept, may_leave u (length before.faults) runs.fault before after runs.allowed runs.leaves)
+  may_on_bank result runs = (runs.kept, may_leave u before.modules runs.fault before after runs.allowed runs.leaves)
 
   -- no memory was left for the text
   pub stops_on_bank : (Puts : Status → Text → Type 0) (end : Ran) (result : Result Made OutOfMemory) → RunsOnBank u before after end → IsErr result → MakesOnBank u before after Puts result

@@ -60,7 +60,7 @@ module _ (seed size : ℕ) (u : Inputs) (before after : BankSeen) (end : RunEnd)
     leaves = runs.leaves;
     puts = subst (λ (o : Option ModuleFault). PutsLines seed size u before o made.status made.text.items) (sym (refused_is u before end runs.fault runs.is)) puts;
   }
-  made_by (Err e) puts = (runs.kept, may_leave u (length before.faults) runs.fault before after runs.allowed runs.leaves)
+  made_by (Err e) puts = (runs.kept, may_leave u before.modules runs.fault before after runs.allowed runs.leaves)
 
   pub gen_refused : (result : Result Made OutOfMemory) (fault : ModuleFault) → refusal_of end ≡ Some fault → IfOk result (λ made. PutsFault seed size fault made.status made.text.items)
       → MakesByCourse u before after (PutsGen seed size u before) result

@@ -1,6 +1,7 @@
 -- A call that meets no fault answers what the rule puts.
-use Rattle.std.specs.Prelude.{◌≡◌, ℕ, ◌⊎◌, Err, slice_index}
+use Rattle.std.specs.Prelude.{◌≡◌, ◌⊎◌, Err}
 use Rattle.strand_base.specs.Counts.{Rose}
+use Rattle.strand_modules.specs.Bank.{SumRose}
 use Rattle.strand_report.specs.declared.refusal.Refusal.{Refusal}
 use Rattle.strand_app.specs.declared.status.Status.{Status}
 use Rattle.strand_app.specs.declared.status.Status.TheVariants as status
@@ -11,10 +12,10 @@ use Rattle.strand_app.specs.Runs.{GivesUp}
 use Rattle.strand_app.specs.Tells.{Tells}
 use Rattle.strand_app.specs.World.{Outside}
 
--- No count of faults rose.
+-- No count of faults rose, and of the bank's objects none stands at its last value.
 pub record IsQuiet (before after : Outside) : Type 0 where
   pub files : Rose before.world.files.faults after.world.files.faults → ⊥
-  pub bank : (k : ℕ) → Rose (slice_index before.world.bank.faults k) (slice_index after.world.bank.faults k) → ⊥
+  pub bank : SumRose before.world.bank.faults after.world.bank.faults → ⊥
   pub sink : Rose before.sink.faults after.sink.faults → ⊥
 
 -- Nothing that the words and the files may say is refused.

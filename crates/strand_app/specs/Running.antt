@@ -27,7 +27,7 @@ IsRun u before fault (Refused made) = PutsRun u before (λ end text. ⊥) fault 
 -- This was run on the bank, by one course that it may take.
 pub record RunsOnBank (u : Inputs) (before after : BankSeen) (result : Ran) : Type 0 where
   pub fault : Course
-  pub allowed : Allows (length before.faults) u fault
+  pub allowed : Allows before.modules u fault
   pub shown : ShownByBank before after fault
   pub kept : Keeps before after
   pub leaves : Leaves u fault before after
@@ -36,7 +36,7 @@ pub record RunsOnBank (u : Inputs) (before after : BankSeen) (result : Ran) : Ty
 -- An answer was made of it: this is what it puts by its course.
 pub record PutsByCourse (u : Inputs) (before after : BankSeen) (Puts : Course → Status → Text → Type 0) (made : Made) : Type 0 where
   pub fault : Course
-  pub allowed : Allows (length before.faults) u fault
+  pub allowed : Allows before.modules u fault
   pub shown : ShownByBank before after fault
   pub kept : Keeps before after
   pub leaves : Leaves u fault before after

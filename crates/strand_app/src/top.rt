@@ -10,6 +10,7 @@ ghost use Rattle.strand_app.specs.RuleOf.{rule_of};
 ghost use Rattle.strand_app.specs.Runs.{Comes, Runs};
 ghost use Rattle.strand_app.specs.Tells.{Holds, IsTold, Refutes, Tells};
 ghost use Rattle.strand_app.specs.World.{outside, world};
+ghost use Rattle.strand_modules.specs.Bank.{Quiet};
 ghost use Rattle.strand_modules.specs.Seen.{bank_seen};
 ghost use Rattle.strand_report.specs.FaultLines.{words_fault};
 ghost use Rattle.strand_report.specs.declared.refusal.Refusal.{Refusal};
@@ -142,7 +143,7 @@ pub fn strand_main<F: Files, K: Sink>(
     ensures no_file_fault { IsPutWhole result → result ≢ Status.FileFault
         → (F.seen files.new).faults ≡ (F.seen files.old).faults }
     ensures no_module_fault { IsPutWhole result → result ≢ Status.ModuleFault
-        → (bank_seen holds bank.new).faults ≡ (bank_seen holds bank.old).faults }
+        → Quiet (bank_seen holds bank.old) (bank_seen holds bank.new) }
 {
     run_command(alloc, words, files, out, bank)
 }

@@ -18,10 +18,10 @@ use Rattle.strand_again.specs.declared.running.Ran.{Ran}
 use Rattle.strand_again.specs.Inputs.{Inputs, state_after, turns_after, writes_after}
 use Rattle.strand_again.specs.Outcome.{IsOutOfMemory, IsRun, IsStoreOf, IsUnread, RefusedBy, machine_after, module_of}
 use Rattle.strand_again.specs.Seen.{visible_after, image_after, Accepts, AreHeld, StandsAfter, StandsAfterSome, StartsWith}
-use Rattle.strand_again.specs.Stepping.{fault_counts, steps_made}
+use Rattle.strand_again.specs.Stepping.{steps_made}
 use Rattle.strand_again.proofs.Allowed.{seen}
 use Rattle.strand_again.proofs.Front.{filled_starts, front_again, image_long}
-use Rattle.strand_again.proofs.MakeSteps.{same_counts}
+use Rattle.strand_again.proofs.MakeSteps.{unrefused, unrefused_then}
 use Rattle.strand_again.proofs.RunSteps.{some_made, writes_made}
 use Rattle.strand_run.specs.declared.running.RunEnd.TheVariants.{ReadRefused, Told}
 use Rattle.strand_run.specs.Fault.{ran}
@@ -69,12 +69,12 @@ module _ (u : Inputs) (b0 b1 b2 : BankSeen) (fills : Fills {T = Unit {0}} b0 b1 
   behind steps stands =
       front_again (image_after u steps) u.image.persistent b0.told b1.told b2.told (image_long u steps) fills.done stands
 
-  store_of : (fault : Option StepFault) → IsStoreOf u (length b1.faults) fault → IsStoreOf u (length b0.faults) fault
-  store_of fault store = subst (λ (n : ℕ). IsStoreOf u n fault) fills.kept.count store
+  store_of : (fault : Option StepFault) → IsStoreOf u b1.modules fault → IsStoreOf u b0.modules fault
+  store_of fault store = subst (λ (n : ℕ). IsStoreOf u n fault) fills.kept.modules store
 
-  refused_of : (b : BankSeen) (fault : Option StepFault) → RefusedBy store_refused b1 b (module_of fault) → RefusedBy store_refused b0 b (module_of fault)
-  refused_of b None refused = refused ∙ same_counts b0 b1 fills.accepted fills.quiet
-  refused_of b (Some f) refused = refuses_after store_refused b0 b1 b f.«module» fills.kept fills.accepted refused
+  refused_of : (b : BankSeen) (fault : Option StepFault) → Keeps b1 b → RefusedBy store_refused b1 b (module_of fault) → RefusedBy store_refused b0 b (module_of fault)
+  refused_of b None kept refused = unrefused_then b0 b1 b fills.kept kept (unrefused b0 b1 fills.accepted fills.quiet) refused
+  refused_of b (Some f) kept refused = refuses_after store_refused b0 b1 b f.«module» fills.kept fills.accepted refused
 
   accepted_of : (writes reads : ℕ) → b2.accepted ≡ reads_accepted reads (stores_accepted writes b1.accepted) → b2.accepted ≡ reads_accepted reads (stores_accepted (length u.image.persistent + writes) b0.accepted)
   accepted_of writes reads counts = counts ∙ ap (reads_accepted reads) (stores_again b0.accepted b1.accepted (stores_accepted writes b1.accepted) (length u.image.persistent) writes fills.counted refl)
@@ -90,7 +90,7 @@ module _ (u : Inputs) (b0 b1 b2 : BankSeen) (fills : Fills {T = Unit {0}} b0 b1 
   run_read r kept run = record {
     fault = ran r.fault None;
     allowed = (store_of r.fault run.store, tt);
-    shown = record { between = b2; kept_first = kept_of kept; kept_second = keeps_same b2; first = refused_of b2 r.fault run.refused; second = refl };
+    shown = record { between = b2; kept_first = kept_of kept; kept_second = keeps_same b2; first = refused_of b2 r.fault kept run.refused; second = unrefused b2 b2 refl refl };
     kept = kept_of kept;
     leaves = ran_of (steps_made r.fault u.steps) (length u.image.persistent) run.stands run.accepted;
     is = (
@@ -111,10 +111,10 @@ module _ (u : Inputs) (b0 b1 b2 : BankSeen) (fills : Fills {T = Unit {0}} b0 b1 
   pub run_unread : (m : ℕ) → Keeps b1 b2 → IsUnread u b1 b2 m → RunsTo u b0 b2 (ReadRefused m)
   run_unread m kept run = record {
     fault = ran run.fault (Some m);
-    allowed = (store_of run.fault run.store, omega (arith, run.second.exists, run.kept_first.count, fills.kept.count));
-    shown = record { between = run.between; kept_first = keeps_trans b0 b1 run.between fills.kept run.kept_first; kept_second = run.kept_second; first = refused_of run.between run.fault run.first; second = run.second };
+    allowed = (store_of run.fault run.store, omega (arith, run.second.exists, run.kept_first.modules, fills.kept.modules));
+    shown = record { between = run.between; kept_first = keeps_trans b0 b1 run.between fills.kept run.kept_first; kept_second = run.kept_second; first = refused_of run.between run.fault run.kept_first run.first; second = run.second };
     kept = kept_of kept;
-    leaves = (run.number, run.exists, run.holder ∙ ap (λ (k : ℕ). run.number % k) fills.kept.count, ran_of (steps_made run.fault u.steps) run.number run.stands run.accepted);
+    leaves = (run.number, run.exists, run.holder ∙ ap (λ (k : ℕ). run.number % k) fills.kept.modules, ran_of (steps_made run.fault u.steps) run.number run.stands run.accepted);
     is = (run.fault, refl);
   }
 

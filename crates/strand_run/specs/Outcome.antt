@@ -32,7 +32,7 @@ RanAndRead u steps count before after = StandsAfter u steps before after × Acce
 
 -- The next word to read, number n, is of module m.
 abbrev pub RanToRefusal : Inputs → List Step → ℕ → BankSeen → BankSeen → Type 0
-RanToRefusal u steps m before after = (n : ℕ) × (n < length u.image.persistent) × (m ≡ n % length before.faults) × RanAndRead u steps n before after
+RanToRefusal u steps m before after = (n : ℕ) × (n < length u.image.persistent) × (m ≡ n % before.modules) × RanAndRead u steps n before after
 
 -- all words were read, or those up to the refusal
 abbrev pub RanTo : Inputs → List Step → Option ℕ → BankSeen → BankSeen → Type 0
@@ -41,7 +41,7 @@ RanTo u steps (Some m) before after = RanToRefusal u steps m before after
 
 -- what stands in the bank, and how many calls its modules accepted
 abbrev pub Leaves : Inputs → Course → BankSeen → BankSeen → Type 0
-Leaves u (fill m) before after = (n : ℕ) × (m ≡ n % length before.faults) × FilledTo u n before after × Accepts n 0 before after
+Leaves u (fill m) before after = (n : ℕ) × (m ≡ n % before.modules) × FilledTo u n before after × Accepts n 0 before after
 Leaves u (ran store read) before after = RanTo u (steps_made store u.steps) read before after
 
 -- Some first words of the image were stored, but not all.
@@ -79,7 +79,7 @@ IsEnd u before (Told r) fault = (fault ≡ ran r.fault None) × TellsRun u befor
 -- This was run on a bank, and so it ended, by one course that it may take.
 pub record RunsTo (u : Inputs) (before after : BankSeen) (end : RunEnd) : Type 0 where
   pub fault : Course
-  pub allowed : Allows (length before.faults) u fault
+  pub allowed : Allows before.modules u fault
   pub shown : ShownByBank before after fault
   pub kept : Keeps before after
   pub leaves : Leaves u fault before after

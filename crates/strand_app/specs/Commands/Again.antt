@@ -155,13 +155,13 @@ module _ (parts : Parts) where
     -- A store that was refused is that of a step which would be done.
     abbrev pub AreStores : List Generation → Type 0
     AreStores [] = Unit {0}
-    AreStores (g ∷ gs) = IsStoreOf (inputs_of parts.config parts.image g) (length before.faults) g.fault × AreStores gs
+    AreStores (g ∷ gs) = IsStoreOf (inputs_of parts.config parts.image g) before.modules g.fault × AreStores gs
 
     -- Behind a refused store or a no nothing more is made.
     abbrev pub AllowsWay : Way → Type 0
-    AllowsWay (unfilled m) = m < length before.faults
+    AllowsWay (unfilled m) = m < before.modules
     AllowsWay (went made) = AreAll parts.steps made × AreStores made
-    AllowsWay (unread made store m) = AllGoOn made × (length made < length parts.steps) × IsStoreOf (next_inputs made) (length before.faults) store × (m < length before.faults)
+    AllowsWay (unread made store m) = AllGoOn made × (length made < length parts.steps) × IsStoreOf (next_inputs made) before.modules store × (m < before.modules)
 
     abbrev pub PutsWay : Way → Status → Text → Type 0
     PutsWay (unfilled m) end text = (end ≡ status.ModuleFault) × (text ≡ module_fault_line (fill_fault m))
