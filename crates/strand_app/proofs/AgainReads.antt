@@ -1,7 +1,10 @@
 -- Serves clause runs of strand_main, for again: how the files of generations are read.
-use Rattle.std.proofs.Common.{◌≡◌, ◌∙◌, ℕ, suc, ◌+◌, ◌-◌, ◌<◌, ◌≤◌, List, [], ◌∷◌, ◌++◌, length, length-append, map, take, refl, sym, ap, arith, append_assoc, append-nil, subst}
-use Rattle.std.specs.Prelude.{Some, None, Ok, Err, IfOk, slice_get, slice_index_or, string_bytes}
+use Rattle.std.proofs.Common.{◌≡◌, ◌∙◌, ℕ, Bool, true, false, nat_le, if◌then◌else◌, suc, ◌+◌, ◌-◌, ◌<◌, ◌≤◌, List, [], ◌∷◌, ◌++◌, length, length-append, map, take, drop, get_or, refl, sym, ap, arith, append_assoc, append-nil, subst}
+use Rattle.std.specs.Prelude.{All, Some, None, Ok, Err, IfOk, String, slice_get, slice_index_or, string_bytes}
 use Rattle.std.specs.Option.{unwrap_or}
+use Rattle.std.proofs.lemmas.List.{length-drop, take_all}
+use Rattle.std.proofs.lemmas.List.Elements.{All-append}
+use Rattle.std.specs.declared.alloc.Global.{Global}
 use Rattle.std.specs.declared.option.Option.{Option}
 use Rattle.std.specs.declared.result.Result.{Result}
 use Rattle.strand_base.specs.FilesSeen.{FilesSeen}
@@ -9,7 +12,8 @@ use Rattle.strand_image.specs.ImageSeen.{ImageSeen}
 use Rattle.strand_inputs.specs.Settings.{Settings}
 use Rattle.strand_inputs.specs.Stop.{steps_to, stop_of}
 use Rattle.strand_inputs.specs.declared.step.Step.{Step}
-use Rattle.strand_inputs.specs.declared.stop.Stop.TheVariants.{End}
+use Rattle.strand_inputs.specs.declared.stop.Stop.{Stop}
+use Rattle.strand_inputs.specs.declared.stop.Stop.TheVariants.{End, At}
 use Rattle.strand_inputs.specs.declared.stop.StopPast.{StopPast}
 use Rattle.strand_inputs.specs.Schedule.{IsBelow}
 use Rattle.strand_report.specs.declared.refusal.ContentFault.{ContentFault}
@@ -20,7 +24,7 @@ use Rattle.strand_app.specs.declared.commands.again.Cut.{Cut}
 use Rattle.strand_app.specs.declared.commands.again.Part.{Part}
 use Rattle.strand_app.specs.declared.fetching.OpenFault.{OpenFault}
 use Rattle.strand_app.specs.declared.fetching.OpenFault.TheVariants.{Fetch, Refused, OutOfMemory}
-use Rattle.strand_app.specs.AgainOnBank.{parts_of, steps_of}
+use Rattle.strand_app.specs.AgainOnBank.{IsPart, parts_of, steps_of}
 use Rattle.strand_app.specs.AgainOpening.{ReadsParts, again_names, first_past, part_at, parts_or, parts_seen, parts_within, program_names, program_seen, schedule_names}
 use Rattle.strand_app.specs.Command.{Pair}
 use Rattle.strand_app.specs.CommandView.{pairs_asked, pairs_in}
@@ -31,6 +35,7 @@ use Rattle.strand_app.specs.Files.{FetchesFirst, Opened, WantsNext}
 use Rattle.strand_app.specs.Opening.{OpensTo}
 use Rattle.strand_app.specs.Reads.{Contents, Reads, given, in_file, then_reads}
 use Rattle.strand_app.specs.RunFiles.{bank_holds, or_past}
+use Rattle.strand_app.proofs.AgainWords.{none_in}
 use Rattle.strand_app.proofs.OpensTo.{decides, fails_all, fails_next, first_among, first_more, reads_more}
 use Rattle.strand_app.proofs.RunReads.{one_more}
 
@@ -206,8 +211,9 @@ module _ (words : AgainWords) (config : Settings) (image : ImageSeen) (entry : F
           done = reading.done ++ pair ∷ [];
           all = reading.all ++ steps ∷ [];
           reads = λ contents. then_reads (reading.reads contents).fetches (reading.reads contents).result (and_schedule file contents);
-          opened = subst (λ (n : List (List ℕ)). Opened (program_names words ++ n) _ entry after (Ok (record { config = config; image = image; steps = reading.all ++ steps ∷ [] }))) (names_more reading.done pair) opened;
-          goes_on = ap (λ (k : ℕ). and_schedules k (pairs_in behind) _) (sym next) ∙ reading.goes_on;
+          opened = subst (λ (n : List (List ℕ)). Opened {V = Parts} (program_names words ++ n) (λ contents. then_reads (reading.reads contents).fetches (reading.reads contents).result (and_schedule file contents)) entry after (Ok (record { config = config; image = image; steps = reading.all ++ steps ∷ [] })))
+              (names_more reading.done pair) opened;
+          goes_on = ap (λ (k : ℕ). and_schedules k (pairs_in behind) (λ contents. then_reads (reading.reads contents).fetches (reading.reads contents).result (and_schedule file contents))) (sym next) ∙ reading.goes_on;
           are = append_assoc reading.done (pair ∷ []) (pairs_in behind) ∙ reading.are;
           number = omega (arith, reading.number, length-append reading.done (pair ∷ []));
           long = omega (arith, reading.long, length-append reading.done (pair ∷ []), length-append reading.all (steps ∷ []));
@@ -224,6 +230,54 @@ module _ (words : AgainWords) (config : Settings) (image : ImageSeen) (entry : F
         let names = ap (λ (n : List (List ℕ)). program_names words ++ n) (append_assoc (schedule_names reading.done) (name ∷ []) (schedule_names (pairs_in behind)) ∙ names_split reading.done (pair ∷ pairs_in behind) ∙ ap schedule_names reading.are) in
         subst (λ (r : Contents → Reads Parts). OpensTo {W = Parts} (again_names words) r (λ p. p) entry after (Err fault)) reading.goes_on
         (subst (λ (n : List (List ℕ)). OpensTo {W = Parts} n (and_schedules file (pair ∷ pairs_in behind) reading.reads) (λ p. p) entry after (Err fault)) names rest)
+
+-- two words, and those behind them
+pub two_words : (words : List (String Global)) (one two : String Global) → one ≡ get_or words 0 one → two ≡ get_or words 1 two → 2 ≤ length words → string_bytes one ∷ string_bytes two ∷ map string_bytes (drop 2 words) ≡ map string_bytes words
+two_words [] one two first second many = absurd (omega (arith, many))
+two_words (a ∷ []) one two first second many = absurd (omega (arith, many))
+two_words (a ∷ b ∷ words) one two first second many = rw (first, second) refl
+
+pub behind_two : (words : List (String Global)) → take (length words - 2) (drop 2 words) ≡ drop 2 words
+behind_two words = take_all (length words - 2) (drop 2 words) (omega (arith, length-drop 2 words))
+
+-- one part more, if there is one
+pub parts_more : (config : Settings) (image : ImageSeen) (parts : List Part) (steps : List Step) (stop : Stop) → All (IsPart config image) parts → All (IsBelow (length image.entries) config.buffers) steps → All (IsPart config image) (parts ++ parts_within steps stop)
+parts_more config image parts steps stop are below = All-append parts (parts_within steps stop) are (one (steps_to stop (length steps)) (within stop))
+  where
+    within : (stop : Stop) → IfOk (steps_to stop (length steps)) (λ count. count ≤ length steps)
+    within End = omega arith
+    within (At n) = at (nat_le n (length steps)) refl
+      where
+        at : (b : Bool) → nat_le n (length steps) ≡ b → IfOk (if◌then◌else◌ b (Ok n) (Err (record { stop = n; steps = length steps }))) (λ count. count ≤ length steps)
+        at true is = omega (arith, is)
+        at false is = tt
+
+    one : (count : Result ℕ StopPast) → IfOk count (λ n. n ≤ length steps) → All (IsPart config image) (part_at steps count)
+    one (Ok n) le = λ k d lt. head k d lt (record { below = below; stop = le })
+      where
+        head : (k : ℕ) (d : Part) → k < 1 → IsPart config image (record { schedule = steps; stop = n }) → IsPart config image (slice_index_or (record { schedule = steps; stop = n } ∷ []) k d)
+        head 0 d lt is = is
+        head (suc k) d lt is = absurd (omega (arith, lt))
+    one (Err past) le = λ k d lt. absurd (omega (arith, lt))
+
+module _ (words : AgainWords) (config : Settings) (image : ImageSeen) (entry : FilesSeen) where
+  -- no memory was left for a part whose schedule was read
+  pub reading_stops : (between after : FilesSeen) (name stop : List ℕ) (behind : List (List ℕ)) (file : ℕ) (parts : List Part) (past : Option StopPast) → Reading words config image entry between (name ∷ stop ∷ behind) file parts past
+      → FetchesOne between after → OpensTo {W = Parts} (again_names words) (and_schedules 3 (pairs_asked words.pairs.now) program_reads) (λ p. p) entry after (Err OutOfMemory)
+  reading_stops between after name stop behind file parts past reading one = reading_fails words config image entry between after name stop behind file parts past reading OutOfMemory (one, tt)
+
+  -- all were read
+  pub reading_all : (now : FilesSeen) (rest : List (List ℕ)) (file : ℕ) (cut : Cut) → Reading words config image entry now rest file cut.parts.items cut.past → length rest < 2 → ReadsParts words config image entry now cut
+  reading_all now rest file cut reading few =
+      let none = none_in rest few in
+      let done : reading.done ≡ pairs_asked words.pairs.now = sym (append-nil reading.done) ∙ ap (λ (p : List Pair). reading.done ++ p) (sym none) ∙ reading.are in
+      let reads : reading.reads ≡ and_schedules 3 (pairs_asked words.pairs.now) program_reads = ap (λ (p : List Pair). and_schedules file p reading.reads) (sym none) ∙ reading.goes_on in
+      record {
+        steps = reading.all;
+        opened = subst (λ (r : Contents → Reads Parts). Opened {V = Parts} (again_names words) r entry now (Ok (record { config = config; image = image; steps = reading.all }))) reads
+            (subst (λ (p : List Pair). Opened {V = Parts} (program_names words ++ schedule_names p) reading.reads entry now (Ok (record { config = config; image = image; steps = reading.all }))) done reading.opened);
+        cut_off = ap (λ (p : List Pair). cut_off_all p reading.all) (sym done) ∙ reading.cut_off;
+      }
 
 -- what is decided of all of them, on a bank that has room or hasn't
 abbrev pub decided_parts : Settings → ImageSeen → List Part → Option StopPast → Result (Unit {0}) Refusal → Result Parts Refusal
@@ -250,14 +304,18 @@ module _ (words : AgainWords) (size : ℕ) (before after : FilesSeen) (config : 
           ∙ ap (λ (r : Result (Unit {0}) Refusal). then_reads 0 (parts_or cut.parts.items cut.past) (λ steps. then_reads 0 r (λ _. given (record { config = config; image = image; steps = steps })))) fits
           ∙ decides_parts config image cut.parts.items cut.past room
 
-  -- they didn't come, or are refused
-  pub parts_failed : (fault : OpenFault) → OpensTo {W = Parts} (again_names words) (and_schedules 3 pairs program_reads) (λ p. p) before after (Err fault) → OpensTo (again_names words) (again_reads size pairs) parts_seen before after (Err fault)
-  parts_failed fault opens =
-      subst (λ (n : List (List ℕ)). OpensTo n (again_reads size pairs) parts_seen before after (Err fault)) (append-nil (again_names words))
-      (fails_all (again_names words) [] (and_schedules 3 pairs program_reads) (λ contents. cut_off_parts size pairs) (λ (p : Parts). p) parts_seen before after fault opens)
+module _ (words : AgainWords) (size : ℕ) (before after : FilesSeen) where
+  abbrev asked : List Pair
+  asked = pairs_asked words.pairs.now
 
-  pub program_failed : (fault : OpenFault) → OpensTo (program_names words) program_reads program_seen before after (Err fault) → OpensTo (again_names words) (again_reads size pairs) parts_seen before after (Err fault)
-  program_failed fault opens = parts_failed fault (fails_behind pairs 3 (program_names words) program_reads before after fault (as_read fault opens))
+  -- they didn't come, or are refused
+  pub parts_failed : (fault : OpenFault) → OpensTo {W = Parts} (again_names words) (and_schedules 3 asked program_reads) (λ p. p) before after (Err fault) → OpensTo (again_names words) (again_reads size asked) parts_seen before after (Err fault)
+  parts_failed fault opens =
+      subst (λ (n : List (List ℕ)). OpensTo n (again_reads size asked) parts_seen before after (Err fault)) (append-nil (again_names words))
+      (fails_all (again_names words) [] (and_schedules 3 asked program_reads) (λ contents. cut_off_parts size asked) (λ (p : Parts). p) parts_seen before after fault opens)
+
+  pub program_failed : (fault : OpenFault) → OpensTo (program_names words) program_reads program_seen before after (Err fault) → OpensTo (again_names words) (again_reads size asked) parts_seen before after (Err fault)
+  program_failed fault opens = parts_failed fault (fails_behind asked 3 (program_names words) program_reads before after fault (as_read fault opens))
     where
       as_read : (fault : OpenFault) → OpensTo (program_names words) program_reads program_seen before after (Err fault) → OpensTo {W = Parts} (program_names words) program_reads (λ p. p) before after (Err fault)
       as_read (Refused refused) opens = opens

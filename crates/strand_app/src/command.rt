@@ -98,8 +98,13 @@ fn generations(words: &[String]) -> Option<Command<'_>>
     let [machine, image, pairs @ ..] = words else {
         return None;
     };
-    let few = 2 <= pairs.len() && pairs.len() <= 2 * MOST_GENERATIONS;
-    if !few || !are_pairs(pairs) {
+    if pairs.len() < 2 {
+        return None;
+    }
+    if pairs.len() > 2 * MOST_GENERATIONS {
+        return None;
+    }
+    if !are_pairs(pairs) {
         return None;
     }
     let words = AgainWords {

@@ -1,0 +1,13 @@
+use Rattle.std.proofs.Common.{◌∙◌, ap}
+use Rattle.std.specs.Option.{is_none}
+use Rattle.strand_inputs.specs.Stop.{stop_of}
+use Rattle.strand_app.proofs.AgainWords.{behind_pair, last_pair}
+use Rattle.strand_app.proofs.command.are_pairs.Goals as goal
+
+pub loop-words-preserved : goal.loop-words-preserved
+loop-words-preserved c =
+    let none = rw (c.is_none.ensures, c.read_stop.ensures, c.as_str.ensures.value) at c.if-is_none.false in
+    behind_pair c.loop-words.words.now c.stop-item.result c.stop-item.is c.in-len2-up.len_at_least none ∙ c.loop-words.invariant
+
+pub returns : goal.returns
+returns c = c.is_empty.ensures ∙ last_pair c.loop-words.words.now c.in_default.len_below ∙ c.loop-words.invariant
