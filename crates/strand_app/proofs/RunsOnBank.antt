@@ -1,5 +1,5 @@
 -- Serves clause runs of strand_main, for run, judge, trace and gen: a run on the bank and the answer of it.
-use Rattle.std.proofs.Common.{◌≡◌, ℕ, ◌-◌, ◌≤◌, List, length, true, refl, sym, ap, ◌∙◌, arith, inl, inr, subst}
+use Rattle.std.proofs.Common.{◌≡◌, ℕ, ◌-◌, ◌≤◌, List, length, true, false, refl, sym, ap, ◌∙◌, arith, inl, inr, subst}
 use Rattle.std.specs.Prelude.{None, Some, Ok, Err, IfSome, IfOk, OnErr}
 use Rattle.std.specs.Result.{IsErr}
 use Rattle.std.specs.Option.{is_some}
@@ -11,6 +11,7 @@ use Rattle.strand_events.specs.declared.event.Event.{Event}
 use Rattle.strand_judge.specs.Verdicts.{IsVerdict}
 use Rattle.strand_judge.specs.Words.{crash_of}
 use Rattle.strand_modules.specs.Bank.{BankSeen, Keeps}
+use Rattle.strand_report.specs.FaultLines.{module_fault_line}
 use Rattle.strand_report.specs.Report.{View}
 use Rattle.strand_rules.specs.declared.turn.StepFault.{StepFault}
 use Rattle.strand_rules.specs.Machine.{program_of, start_of}
@@ -19,11 +20,11 @@ use Rattle.strand_run.specs.Fault.{Course, fill, ran}
 use Rattle.strand_again.specs.Inputs.{Inputs}
 use Rattle.strand_run.specs.Outcome.{Allows, Leaves, MayLeave, RunsTo, TellsRun, view_of}
 use Rattle.strand_again.specs.Seen.{visible_after}
-use Rattle.strand_run.specs.Seen.{Reports, ReportsRun}
+use Rattle.strand_run.specs.Seen.{Reports, ReportsRun, fill_fault, read_fault}
 use Rattle.strand_again.specs.Stepping.{steps_made}
 use Rattle.strand_again.specs.declared.running.Ran.{Ran as Run}
 use Rattle.strand_run.specs.declared.running.RunEnd.{RunEnd}
-use Rattle.strand_run.specs.declared.running.RunEnd.TheVariants.{Told}
+use Rattle.strand_run.specs.declared.running.RunEnd.TheVariants.{FillRefused, ReadRefused, Told}
 use Rattle.strand_run.proofs.RunImage.{may_after}
 use Rattle.strand_app.specs.declared.commands.judge.Question.{Question as CodeQuestion}
 use Rattle.strand_app.specs.declared.running.Ran.{Ran}
@@ -42,7 +43,7 @@ use Rattle.strand_app.specs.Refuting.{TellsRefutation}
 use Rattle.strand_app.specs.Machine.{PutsRun}
 use Rattle.strand_app.specs.Opening.{inputs_of}
 use Rattle.strand_app.specs.Rule.{Text}
-use Rattle.strand_app.specs.Running.{RunsOnBank, PutsOnBank, MakesOnBank}
+use Rattle.strand_app.specs.Running.{Answers, RunsOnBank, PutsOnBank, MakesByCourse, MakesOnBank}
 
 -- where no memory is left for the answer, the bank is one that may be left
 pub may_leave : (u : Inputs) (count : ℕ) (fault : Course) (before after : BankSeen) → Allows count u fault → Leaves u fault before after → MayLeave u before after
@@ -81,6 +82,47 @@ module _ (u : Inputs) (before after : BankSeen) where
         );
       }
 
+  -- no module refused
+  pub ran_whole : (r : Run) → RunsTo u before after (Told r) → is_some r.fault ≡ false → RunsOnBank u before after (Whole r)
+  ran_whole r runs none = go r.fault refl none
+    where
+      go : (o : Option StepFault) → r.fault ≡ o → is_some o ≡ false → RunsOnBank u before after (Whole r)
+      go (Some f) is none = cc
+      go None is none = record {
+        fault = runs.fault;
+        allowed = runs.allowed;
+        shown = runs.shown;
+        kept = runs.kept;
+        leaves = runs.leaves;
+        is = (runs.is.0 ∙ ap (λ (x : Option StepFault). ran x None) is, is, runs.is.1);
+      }
+
+  -- a module refused the fill
+  pub fill_refused : (m : ℕ) (result : Result Ran OutOfMemory) → RunsTo u before after (FillRefused m) → IfOk result (Answers (module_fault_line (fill_fault m))) → IfOk result (RunsOnBank u before after)
+  fill_refused m (Err e) runs answers = tt
+  fill_refused m (Ok (Whole r)) runs answers = absurd answers
+  fill_refused m (Ok (Refused made)) runs answers = record {
+    fault = runs.fault;
+    allowed = runs.allowed;
+    shown = runs.shown;
+    kept = runs.kept;
+    leaves = runs.leaves;
+    is = subst (λ (b : Course). PutsRun u before (λ e t. ⊥) b made.status made.text.items) (sym runs.is) answers;
+  }
+
+  -- a module refused the read
+  pub read_refused : (m : ℕ) (result : Result Ran OutOfMemory) → RunsTo u before after (ReadRefused m) → IfOk result (Answers (module_fault_line (read_fault m))) → IfOk result (RunsOnBank u before after)
+  read_refused m (Err e) runs answers = tt
+  read_refused m (Ok (Whole r)) runs answers = absurd answers
+  read_refused m (Ok (Refused made)) runs answers = record {
+    fault = runs.fault;
+    allowed = runs.allowed;
+    shown = runs.shown;
+    kept = runs.kept;
+    leaves = runs.leaves;
+    is = subst (λ (b : Course). PutsRun u before (λ e t. ⊥) b made.status made.text.items) (sym runs.is.1) answers;
+  }
+
   pub may_of : {T : Type 0} (result : Result T OutOfMemory) (end : RunEnd) → RunsTo u before after end → OnErr result (Keeps before after × MayLeave u before after)
   may_of (Ok x) end runs = tt
   may_of (Err e) end runs = (runs.kept, may_leave u before.modules runs.fault before after runs.allowed runs.leaves)
@@ -97,6 +139,11 @@ module _ (u : Inputs) (before after : BankSeen) where
 
   pub may_on_bank : (result : Ran) → RunsOnBank u before after result → Keeps before after × MayLeave u before after
   may_on_bank result runs = (runs.kept, may_leave u before.modules runs.fault before after runs.allowed runs.leaves)
+
+  -- no memory was left for the run
+  pub stops_with : (Puts : Course → Status → Text → Type 0) (result : Result Made OutOfMemory) → IsErr result → Keeps before after × MayLeave u before after → MakesByCourse u before after Puts result
+  stops_with Puts (Ok made) err may = cc
+  stops_with Puts (Err e) err may = may
 
   -- no memory was left for the text
   pub stops_on_bank : (Puts : Status → Text → Type 0) (end : Ran) (result : Result Made OutOfMemory) → RunsOnBank u before after end → IsErr result → MakesOnBank u before after Puts result
