@@ -21,10 +21,14 @@ READERS = {"machine": formats.read_machine, "image": formats.read_image, "certif
 FIRST_READ = {"machine": ("run", "", "", "end"), "image": ("list",)}
 
 
+def printable(text):
+    """A text without what a line or a picture can't have, as a file's name may."""
+    return "".join(letter if letter.isprintable() else "?" for letter in text)
+
+
 def say(message):
     """One line on standard error."""
-    text = "".join(letter if letter.isprintable() else "?" for letter in str(message))
-    print(f"{os.path.basename(sys.argv[0])}: {text}", file=sys.stderr)
+    print(f"{os.path.basename(sys.argv[0])}: {printable(str(message))}", file=sys.stderr)
 
 
 def stop(message, status=1):
@@ -34,7 +38,8 @@ def stop(message, status=1):
 
 
 def answered(work):
-    """Does a tool's work and ends with its status. An output that can't be written and Ctrl-C end it without a trace of calls."""
+    """Does a tool's work and ends with its status. An output that can't be written ends it with a line, one that nobody reads any more
+    with none, and Ctrl-C too."""
     try:
         status = work()
         sys.stdout.flush()
@@ -43,11 +48,13 @@ def answered(work):
     except OSError as fault:
         status = fault
     except KeyboardInterrupt:
-        os._exit(130)
+        sys.exit(130)
     else:
         sys.exit(status)
     os.dup2(os.open(os.devnull, os.O_WRONLY), sys.stdout.fileno())
-    stop("nobody reads the output" if status is None else f"{status.filename or 'the output'}: {why_unread(status)}", 5)
+    if status is not None:
+        say(f"{status.filename or 'the output'}: {why_unread(status)}")
+    sys.exit(5)
 
 
 class Words(argparse.ArgumentParser):

@@ -22,6 +22,7 @@ CALLS = {"schedule": "lazy --for MACHINE IMAGE", "sweep": "eager MACHINE IMAGE",
          "explain": "PROGRAM 3", "install": "FOLDER PROGRAM", "write-to": "PROGRAM -o FOLDER",
          **dict.fromkeys(("check-allocations", "check-tests", "first-call", "gate-times", "kept-program", "prove", "try-edits"), "")}
 PLACES = ("MACHINE", "IMAGE", "SCHEDULE", "CRASH", "CERT", "TRACE", "REPORT", "PROGRAM")
+BAD = ("none", "folder", "text", "bytes", "endless")
 ASKING = ("schedule", "sweep", "timeline", "why")  # which ask a program
 TELLER = """#!/bin/sh
 case $1 in run) cat "{REPORT}" ;; trace) cat "{TRACE}" ;; refute) cat "{REFUTED}" ;; check) echo accepted ;; esac
@@ -78,15 +79,17 @@ def try_tool(check, tool, path, files, bad):
         note(check, f"{shown} --no-such-word", called, is_one_line(shown, called, 2))
     for at, word in enumerate(CALLS[tool].split()):
         for name, file in bad.items() if word in PLACES else ():
+            if word == "PROGRAM" and name in ("bytes", "endless"):
+                continue  # which nothing reads
             words = words_of(tool, files)
             words[at] = file
             called = calls.call([path, *asking, *words])
             note(check, f"{shown} {' '.join(words)}: {name} for {word}", called, is_one_line(shown, called))
 
 
-def try_tools(check, program, tools, folder):
-    """All these tools, by their names."""
-    files, bad = make_files(program, folder), make_bad(folder)
+def try_tools(check, program, tools, folder, kinds=BAD):
+    """All these tools, by their names, with these kinds of bad files."""
+    files, bad = make_files(program, folder), {name: file for name, file in make_bad(folder).items() if name in kinds}
     checks.for_each(lambda tool: try_tool(check, tool, tools[tool], files, bad), tools)
 
 
@@ -98,7 +101,8 @@ def padded(text, most):
 def largest_image():
     """An image with as much of everything as there may be. It stores to a word, joins, loads it many times, and stores again."""
     begin = assembler.assemble(b"lui x2, 0x40000\naddi x1, x1, 1\nsd x1, 0(x2)\njoinstrand\n.persist\n.word 0").code
-    load, *end = assembler.assemble(b"ld x4, 0(x2)\naddi x1, x1, 1\nsd x1, 0(x2)\npersistbarrier\njoinstrand\nebreak\n.persist\n.word 0").code
+    load, *end = assembler.assemble(b"ld x4, 0(x2)\naddi x1, x1, 1\nsd x1, 0(x2)\npersistbarrier\njoinstrand\nebreak\n"
+                                    b".persist\n.word 0").code
     most = dict((name, high) for name, _, high in formats.QUANTITIES)
     code = [*begin, *[load] * LOADS, *end]
     symbols = [formats.Symbol(2, place, b"word_%059d" % place) for place in range(NAMED)]

@@ -9,6 +9,7 @@ import formats
 
 BASES, WIDTHS = (0x10000000, 0x20000000, 0x40000000), (4, 8, 8)  # of code, volatile and persistent words
 MOST = 8  # names of a list
+NUMBER = "a number from 0 to 2^64 - 1 is due, decimal or 0x and hexadecimal digits"
 PLACE = re.compile(r"([A-Za-z_][A-Za-z0-9_]*)(?:\+(0x[0-9A-Fa-f]+|[0-9]+))?")
 
 
@@ -57,3 +58,19 @@ class Names:
             return number_of(text)
         behind = number_of(found[2] or "0")
         return None if behind is None else self.addresses[self.names.index(found[1])] + behind
+
+
+def changed_words(image, given):
+    """The persistent words of an image, where some are others: each text is PLACE=WORD. A ValueError tells the first that isn't."""
+    words, named = list(image.persistent), Names(image)
+    for text in given:
+        place, sign, word = text.partition("=")
+        if not sign:
+            raise ValueError(f"{text}: PLACE=WORD is due")
+        address, number = named.address_of(place), number_of(word)
+        if address is None or address % 8 or not 0 <= (address - BASES[2]) // 8 < len(words):
+            raise ValueError(f"{text}: {place} is no persistent word of the image")
+        if number is None:
+            raise ValueError(f"{text}: {NUMBER}")
+        words[(address - BASES[2]) // 8] = number
+    return words

@@ -1,10 +1,16 @@
 """The picture of a replayed run: lanes of cores and persists over steps, as SVG or as an HTML page around it."""
 import html
+import os
 
-LABELS = 270  # the width of the names of lanes
-LONGEST = 26  # letters of a persist's name in its lane
+import inputs
+import names
+
+LABELS = 270  # the width of the names of lanes, at least
+LONGEST = 26  # letters of a word's name in a lane
+LETTER = 7  # the width of a letter, at most
 SCREEN = 1050  # the width that up to 200 steps fill
 BEHIND = 70  # room behind the last step, for the cause of a bubble there
+PERSISTENT = names.BASES[2]
 TOP = 26  # the axis
 PLACES = [("queue", "in the core's queue", "#e69f00"), ("buffer", "in a strand buffer", "#56b4e9"),
           ("flight", "in flight", "#cc79a7"), ("memory", "durable", "#79c9ac")]
@@ -30,6 +36,7 @@ class Picture:
         self.step = round(max(5, min(24, SCREEN / max(1, self.steps))), 2)
         self.width = round(self.step * self.steps + BEHIND, 1)
         self.labels, self.numbers, self.back, self.front, self.height = [], [], [], [], TOP
+        self.aside = LABELS
 
     def left(self, step):
         """Where a step begins, from 1 on; the end of the run is the step behind the last."""
@@ -40,6 +47,7 @@ class Picture:
 
     def name(self, text, middle, indent=0, bold=False, title=None):
         self.labels.append(tag("text", title, text, x=8 + indent, y=middle + 4, font_weight="bold" if bold else "normal"))
+        self.aside = max(self.aside, 16 + indent + LETTER * len(text))
 
 
 def digits(number):
@@ -112,12 +120,19 @@ def bubble_lane(picture, bubbles, label):
         picture.front.append(tag("rect", f"step {step}, {letters}: bubble {cause}", x=picture.left(step) + 0.5, y=y - 6,
                                  width=round(picture.step - 1, 2), height=12, fill=RED))
     for step, count, cause in runs_of_bubbles(bubbles):
-        x, text = picture.left(step), cause + (f" x{count}" if count > 1 else "")
+        text = cause + (f" x{count}" if count > 1 else "")
+        x = round(max(0, min(picture.left(step), picture.width - LETTER * len(text))), 2)
         line = next((line for line, begin in enumerate(free) if x >= begin), None)
         if line is not None:
             picture.front.append(tag("text", None, text, x=x, y=y + 17 + 11 * line, fill=RED))
-            free[line] = x + 7 * len(text) + 4
+            free[line] = x + LETTER * len(text) + 4
     picture.height += 22 + 11 * sum(begin > 0 for begin in free)
+
+
+def cut(name):
+    """A word's name as a lane has it: of a long one the front, and what is behind it."""
+    symbol, plus, behind = name.partition("+")
+    return name if len(name) <= LONGEST else f"{symbol[:LONGEST - len(plus + behind) - 2]}..{plus}{behind}"
 
 
 def persist_lane(picture, event, middles):
@@ -126,8 +141,8 @@ def persist_lane(picture, event, middles):
     middles[event.persist] = y
     times = [event.step, *event.moves, picture.steps + 1]
     strand = f" strand {event.strand}" if picture.run.settings["mode"] == "strand" else ""
-    text, name = f"{event.persist}: {picture.run.names.short(event.word)} = {digits(event.value)}", name_of(picture.run, event)
-    picture.name((text if len(text) <= LONGEST else text[:LONGEST] + "..") + strand, y, 14, is_bold, name)
+    text, name = f"{event.persist}: {cut(picture.run.names.short(event.word))} = {digits(event.value)}", name_of(picture.run, event)
+    picture.name(text + strand, y, 14, is_bold, name)
     for (_, place, colour), begin, end in zip(PLACES, times, times[1:]):
         last = "the end" if end > picture.steps else f"step {end}"
         picture.back.append(tag("rect", f"{name}: {place} from step {begin} to {last}", x=picture.left(begin),
@@ -183,6 +198,12 @@ def drawn(run):
     return picture
 
 
+def files(run):
+    """The names of the files that a run is of."""
+    machine, image, schedule = (inputs.printable(os.path.basename(name)) for name in run.words)
+    return f"{image} by {schedule} on {machine}"
+
+
 def heading(run):
     durable = sum(len(event.moves) == 3 for event in run.persists)
     chain = " ".join(map(str, run.chain[:16])) + (" .." if len(run.chain) > 16 else "")
@@ -222,31 +243,11 @@ def element(width, parts, top, end):
 def svg(run):
     """The picture as one SVG file."""
     picture = drawn(run)
-    signs, wide = legend(42)
-    width, head = max(LABELS + picture.width, wide), 58
+    signs, wide = legend(60)
+    titles = files(run), heading(run)
+    width, head = max(picture.aside + picture.width, wide, 16 + 9 * max(map(len, titles))), 76
     parts = [tag("rect", width="100%", height="100%", fill="#fff"),
-             tag("text", None, heading(run), x=8, y=20, font_size=13, font_weight="bold"), *signs,
+             *(tag("text", None, text, x=8, y=20 + 18 * at, font_size=13, font_weight="bold") for at, text in enumerate(titles)), *signs,
              f'<g transform="translate(0 {head})">', *picture.labels, "</g>",
-             f'<g transform="translate({LABELS} {head})">', *picture.numbers, *picture.back, *picture.front, "</g>"]
+             f'<g transform="translate({picture.aside} {head})">', *picture.numbers, *picture.back, *picture.front, "</g>"]
     return element(width, parts, 0, picture.height + head)
-
-
-STYLE = """body { font-family: sans-serif; background: #fff; margin: 12px } h1 { font-size: 15px }
-svg { display: block; background: #fff } .run { overflow: auto; max-height: calc(100vh - 96px) }
-.row { display: flex; width: max-content } .row > :first-child { position: sticky; left: 0; z-index: 1 }
-.top { position: sticky; top: 0; z-index: 2 }"""
-
-
-def page(run):
-    """The picture as an HTML page: names of lanes and numbers of steps stay in sight while the lanes scroll."""
-    picture = drawn(run)
-    signs, wide = legend(12)
-    end, lanes = picture.height, picture.back + picture.front
-    return "\n".join([
-        '<!DOCTYPE html>', '<html lang="en">', '<head><meta charset="utf-8">', f"<title>{escaped(heading(run))}</title>",
-        f"<style>{STYLE}</style></head>", f"<body><h1>{escaped(heading(run))}</h1>", element(wide, signs, 0, 24),
-        f'<div class="run"><div class="row top">{element(LABELS, [], 0, TOP)}',
-        f'{element(picture.width, picture.numbers, 0, TOP)}</div>',
-        f'<div class="row">{element(LABELS, picture.labels, TOP, end)}',
-        f'{element(picture.width, lanes, TOP, end)}</div></div>',
-        "</body></html>", ""])

@@ -15,14 +15,14 @@ PERSISTENT = names.BASES[2]
 
 
 class Event(turns.Event):
-    """An event of the trace, by its line: with its value, and the step that made it."""
+    """An event of the trace, by its line: with its value, the step that made it, and where its instruction stands."""
 
     def __init__(self, words):
         kind = words[0]
         super().__init__(kind, int(words[1]), int(words[2], 16) if kind in ("load", "store") else None,
                          int(words[5]) if len(words) == 6 else None)
         self.value = int(words[3 if kind == "store" else 2], 16) if kind in ("store", "out") else None
-        self.step = None
+        self.step = self.place = None
 
 
 class Run:
@@ -39,8 +39,8 @@ class Run:
         self.bubbles = runs.bubbles_of(self.report)
         self.cores = runs.cores_of(self.report)
         self.lives = [life for _, life in self.cores]
-        read = inputs.read("image", image)
-        self.names, self.seen = names.Names(read), visible.Visible(read, self.settings["sets"], self.settings["ways"])
+        self.image = inputs.read("image", image)
+        self.names, self.seen = names.Names(self.image), visible.Visible(self.image, self.settings["sets"], self.settings["ways"])
         self.events = [Event(line.split()[2:]) for line in self.ask("trace", stop, runs.EDGES)]
         self.turns, self.other, self.made = turns.Machine(len(self.cores), self.settings), [], 0
         self.persists = [event for event in self.events if event.persist is not None]
@@ -92,7 +92,9 @@ def retire(run, step, number):
     if kind is None:
         run.other.append((step, number, text_at(seen, place)))
         return None
-    return compare(run, step, run.turns.retire(next_of_trace(run, step, number, kind, word)))
+    event = next_of_trace(run, step, number, kind, word)
+    event.place = place
+    return compare(run, step, run.turns.retire(event))
 
 
 def replay(run):
