@@ -23,8 +23,14 @@ def near(word, words):
 
 def files_of(words):
     """The names of a command's files, by their places among the words."""
-    dues = enumerate(zip(words[1:], formats.COMMANDS[words[0]]), 1)
+    dues = enumerate(zip(words[1:], formats.dues_of(words[0], len(words) - 1)), 1)
     return {place: word for place, (word, due) in dues if due in formats.KINDS}
+
+
+def form_of(command):
+    """The words behind a command, as they are told."""
+    more = f" .. (1 to {formats.GENERATIONS} pairs {' '.join(formats.PAIR)})" if command == "again" else ""
+    return " ".join(formats.COMMANDS[command]) + more
 
 
 def fault_of(word, due):
@@ -40,8 +46,8 @@ def wrong_word(words):
     if not words or words[0] not in formats.COMMANDS:
         given = f"there is no command {quoted(words[0])}{near(words[0], formats.COMMANDS)}" if words else "a command is due"
         return 0, f"{given}: `strand --help' tells all"
-    dues, given = formats.COMMANDS[words[0]], words[1:]
-    takes = f"`{words[0]}' takes {' '.join(dues)}"
+    dues, given = formats.dues_of(words[0], len(words) - 1), words[1:]
+    takes = f"`{words[0]}' takes {form_of(words[0])}"
     if len(given) < len(dues):
         return len(words), f"{takes}, and {dues[len(given)]} is missing"
     if len(given) > len(dues):

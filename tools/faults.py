@@ -32,20 +32,32 @@ class Call:
 
     def __init__(self, words):
         self.words, self.names = words, list(commands.files_of(words).values())
-        self.kinds = formats.FILES.get(words[0], ())
+        self.dues = formats.dues_of(words[0], len(words) - 1)
+        self.kinds = [formats.KINDS[due] for due in self.dues if due in formats.KINDS]
 
-    def data(self, kind):
-        """What a file of this kind holds, up to its limit."""
-        with open(self.names[self.kinds.index(kind)], "rb") as file:
-            return file.read(formats.BYTES[kind])
+    def data(self, file):
+        """What a file holds, up to its limit. Where there are schedules, files 0 and 1 are machine and image."""
+        with open(self.names[file], "rb") as opened:
+            return opened.read(formats.BYTES[self.kinds[file]])
 
-    def line(self, kind, number):
+    def line(self, file, number):
         """A line of a file without its end."""
-        data, at = self.data(kind), 0
+        data, at = self.data(file), 0
         for _ in range(number - 1):
             at = data.index(b"\n", at) + 1
         end = data.find(b"\n", at)
         return data[at:end if end >= 0 else len(data)].removesuffix(b"\r")
+
+    def limits(self):
+        """The cores of the image, and the machine's buffers."""
+        return formats.version_of(self.data(1)[:32])[1][0], formats.read_machine(self.data(0))[b"buffers"]
+
+    def cut_off(self, stop):
+        """The first schedule that this STOP is past."""
+        schedules = [file for file, kind in enumerate(self.kinds) if kind == "schedule"]
+        stops = [word for word, due in zip(self.words[1:], self.dues) if due == "STOP"]
+        return next(self.names[file] for file, word in zip(schedules, stops) if word != "end" and int(word) == stop and
+                    formats.steps_in(formats.read_schedule(self.data(file), *self.limits())) < stop)
 
 
 def why_unread(name):
@@ -63,8 +75,7 @@ def limit_in_line(call, kind, line, number):
         return place, f"{number} is outside its limits: {key.decode()} is 1 to {formats.SIZES[key]}"
     places, words = zip(*marks.words_of(line))
     letter, numbers, times = formats.step_of(words)
-    cores = formats.version_of(call.data("image")[:32])[1][0]
-    buffers = formats.read_machine(call.data("machine"))[b"buffers"]
+    cores, buffers = call.limits()
     dues = {b"c": ("core",), b"d": ("core",), b"s": ("core", "buffer", "place"), b"w": ("place",)}[letter]
     limits = {"core": (cores, f"the image has {cores}"), "buffer": (buffers, f"a core has {buffers}"),
               "place": (formats.PLACES, f"there may be {formats.PLACES}")}
@@ -80,7 +91,7 @@ def limit_in_line(call, kind, line, number):
 def undefined_in_line(call, line):
     """A name that no label has, or none of the code where one of it is due."""
     place, name = marks.used_name(line)
-    labels = [found.decode() for found in re.findall(rb"(?m)^[ \t]*([A-Za-z_][A-Za-z0-9_]*):", call.data("text"))]
+    labels = [found.decode() for found in re.findall(rb"(?m)^[ \t]*([A-Za-z_][A-Za-z0-9_]*):", call.data(0))]
     if name in labels:
         return place, f"the label {commands.quoted(name)} stands among data, and one of the code is due"
     return place, f"no label has the name {commands.quoted(name)}{commands.near(name, labels)}"
@@ -92,9 +103,9 @@ def range_in_line(line, number):
     return place, f"{marks.told(operand)}{makes} doesn't fit: {fits} does"
 
 
-def fault_in_line(call, kind, what, rest):
-    """The place and the fault of a line that a line of fault tells."""
-    line = call.line(kind, int(rest[0]))
+def fault_in_line(call, file, what, rest):
+    """The place and the fault of a line of a file that a line of fault tells."""
+    kind, line = call.kinds[file], call.line(file, int(rest[0]))
     if what == "badline":
         return line, BAD_LINES[kind](line)
     if what == "repeated":
@@ -134,19 +145,20 @@ def explain(words, fault):
     """What a line of fault says, whose words are given behind `fault`."""
     call, (kind, *rest) = Call(words), fault
     if kind == "stop":
-        return Said(f"STOP is {rest[0]}, and {call.names[2]} has {rest[1]} steps")
+        return Said(f"STOP is {rest[0]}, and {call.cut_off(int(rest[0]))} has {rest[1]} steps")
     if kind == "bank":
         return Said(f"the image, {call.names[1]}, has {rest[0]} persistent words, and the memory modules have room for {rest[1]}")
     if rest[0] == "size":
         return Said(f"SIZE is {rest[1]}, and has to be 1 to 200000")
-    name = call.names[int(rest[0]) - 1]
+    file = int(rest[0]) - 1
+    name = call.names[file]
     if kind == "file":
         return Said(f"{name}: {why_unread(name)}")
-    of, what, rest = call.kinds[int(rest[0]) - 1], rest[1], rest[2:]
+    what, rest = rest[1], rest[2:]
     if what in ("line", "badline", "repeated", "duplicate", "undefined", "range"):
-        line, (place, message) = fault_in_line(call, of, "limit" if kind == "limit" else what, rest)
+        line, (place, message) = fault_in_line(call, file, "limit" if kind == "limit" else what, rest)
         return Said(f"{name}, line {rest[0]}: {message}", line, place)
-    return Said(f"{name}: {of_file(call, name, of, what, rest)}")
+    return Said(f"{name}: {of_file(call, name, call.kinds[file], what, rest)}")
 
 
 def of_words(words):

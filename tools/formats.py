@@ -15,9 +15,10 @@ BYTES = {"machine": 4_096, "image": 8_388_608, "schedule": 16_777_216, "text": 1
 TEXTS = ("machine", "schedule", "text", "certificate")  # in which a # begins a comment
 RUN = ("MACHINE", "IMAGE", "SCHEDULE", "STOP")
 COMMANDS = {"asm": ("TEXT",), "list": ("IMAGE",), "upgrade": ("IMAGE",), "run": RUN, "trace": RUN, "judge": (*RUN, "CRASH"),
-            "refute": (*RUN, "CRASH"), "check": (*RUN, "CRASH", "CERT"),
+            "refute": (*RUN, "CRASH"), "check": (*RUN, "CRASH", "CERT"), "again": RUN,
             **dict.fromkeys(("gen", "gen-image", "gen-schedule"), ("SEED", "SIZE"))}
 KINDS = {"TEXT": "text", "MACHINE": "machine", "IMAGE": "image", "SCHEDULE": "schedule", "CRASH": "crash", "CERT": "certificate"}
+PAIR, GENERATIONS = RUN[2:], 16  # `again` takes such a pair for each generation, and so many at most
 GENERATED = tuple(command for command, words in COMMANDS.items() if "SEED" in words)
 FILES = {command: tuple(KINDS[word] for word in words if word in KINDS) for command, words in COMMANDS.items()
          if command not in GENERATED}
@@ -55,6 +56,12 @@ class Refused(ValueError):
 
     def line(self, file):
         return f"fault {self.kind} {file} {self.rest}\n".encode()
+
+
+def dues_of(command, count):
+    """What is due where a command is given so many words: of `again` a pair for each generation, as far as there may be so many."""
+    more = -(-(count - len(RUN)) // len(PAIR)) if command == "again" else 0
+    return COMMANDS[command] + PAIR * max(0, min(more, GENERATIONS - 1))
 
 
 def number_of(word):

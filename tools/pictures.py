@@ -240,14 +240,31 @@ def element(width, parts, top, end):
             'font-family="sans-serif" font-size="11">\n' + "\n".join(parts) + "\n</svg>\n")
 
 
-def svg(run):
-    """The picture as one SVG file."""
-    picture = drawn(run)
-    signs, wide = legend(60)
-    titles = files(run), heading(run)
-    width, head = max(picture.aside + picture.width, wide, 16 + 9 * max(map(len, titles))), 76
-    parts = [tag("rect", width="100%", height="100%", fill="#fff"),
-             *(tag("text", None, text, x=8, y=20 + 18 * at, font_size=13, font_weight="bold") for at, text in enumerate(titles)), *signs,
+def block(run, titles, has_legend=True):
+    """The parts of a run's picture below these titles, how wide they are, and how high."""
+    picture, behind = drawn(run), 6 + 18 * len(titles)
+    signs, wide = legend(behind + 18) if has_legend else ([], 0)
+    head = behind + (34 if has_legend else 16)
+    parts = [*(tag("text", None, text, x=8, y=20 + 18 * at, font_size=13, font_weight="bold") for at, text in enumerate(titles)), *signs,
              f'<g transform="translate(0 {head})">', *picture.labels, "</g>",
              f'<g transform="translate({picture.aside} {head})">', *picture.numbers, *picture.back, *picture.front, "</g>"]
-    return element(width, parts, 0, picture.height + head)
+    return parts, max(picture.aside + picture.width, wide, 16 + 9 * max(map(len, titles))), picture.height + head
+
+
+BACKGROUND = tag("rect", width="100%", height="100%", fill="#fff")
+
+
+def svg(run):
+    """The picture as one SVG file."""
+    parts, width, height = block(run, [files(run), heading(run)])
+    return element(width, [BACKGROUND, *parts], 0, height)
+
+
+def svg_of_generations(runs, left):
+    """The pictures of generations below each other as one SVG file; `left` tells what a run left."""
+    found, widest, top = [], 0, 0
+    for number, run in enumerate(runs, 1):
+        parts, width, height = block(run, [f"generation {number}: {files(run)}", heading(run), left(run)], number == 1)
+        found += [f'<g transform="translate(0 {top})">', *parts, "</g>"]
+        widest, top = max(widest, width), top + height
+    return element(widest, [BACKGROUND, *found], 0, top)
