@@ -1,5 +1,6 @@
 -- Serves clause runs of strand_main, for again: how the files of generations are read.
-use Rattle.std.proofs.Common.{◌≡◌, ◌∙◌, ℕ, Bool, true, false, nat_le, if◌then◌else◌, suc, ◌+◌, ◌-◌, ◌<◌, ◌≤◌, List, [], ◌∷◌, ◌++◌, length, length-append, map, take, drop, get_or, refl, sym, ap, arith, append_assoc, append-nil, subst}
+use Rattle.std.proofs.Common.{◌≡◌, ◌∙◌, ℕ, Bool, true, false, nat_le, if◌then◌else◌, zero, suc, ◌+◌, ◌-◌, ◌<◌, ◌≤◌, List, [], ◌∷◌, ◌++◌, length, length-append, map, take, drop, get_or, refl, sym, ap, arith, append_assoc, append-nil, subst}
+use Rattle.std.proofs.lemmas.Bool.Decides.{nat_tests}
 use Rattle.std.specs.Prelude.{All, Some, None, Ok, Err, IfOk, String, slice_get, slice_index_or, string_bytes}
 use Rattle.std.specs.Option.{unwrap_or}
 use Rattle.std.proofs.lemmas.List.{length-drop, take_all}
@@ -242,21 +243,21 @@ behind_two words = take_all (length words - 2) (drop 2 words) (omega (arith, len
 
 -- one part more, if there is one
 pub parts_more : (config : Settings) (image : ImageSeen) (parts : List Part) (steps : List Step) (stop : Stop) → All (IsPart config image) parts → All (IsBelow (length image.entries) config.buffers) steps → All (IsPart config image) (parts ++ parts_within steps stop)
-parts_more config image parts steps stop are below = All-append parts (parts_within steps stop) are (one (steps_to stop (length steps)) (within stop))
+parts_more config image parts steps stop are below = All-append (IsPart config image) parts (parts_within steps stop) are (one (steps_to stop (length steps)) (within stop))
   where
     within : (stop : Stop) → IfOk (steps_to stop (length steps)) (λ count. count ≤ length steps)
     within End = omega arith
     within (At n) = at (nat_le n (length steps)) refl
       where
-        at : (b : Bool) → nat_le n (length steps) ≡ b → IfOk (if◌then◌else◌ b (Ok n) (Err (record { stop = n; steps = length steps }))) (λ count. count ≤ length steps)
-        at true is = omega (arith, is)
+        at : (b : Bool) → nat_le n (length steps) ≡ b → IfOk {E = StopPast} (if b then Ok n else Err (record { stop = n; steps = length steps })) (λ count. count ≤ length steps)
+        at true is = let le : n ≤ length steps = grind (arith, nat_tests, is) in le
         at false is = tt
 
     one : (count : Result ℕ StopPast) → IfOk count (λ n. n ≤ length steps) → All (IsPart config image) (part_at steps count)
     one (Ok n) le = λ k d lt. head k d lt (record { below = below; stop = le })
       where
         head : (k : ℕ) (d : Part) → k < 1 → IsPart config image (record { schedule = steps; stop = n }) → IsPart config image (slice_index_or (record { schedule = steps; stop = n } ∷ []) k d)
-        head 0 d lt is = is
+        head zero d lt is = is
         head (suc k) d lt is = absurd (omega (arith, lt))
     one (Err past) le = λ k d lt. absurd (omega (arith, lt))
 

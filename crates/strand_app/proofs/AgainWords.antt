@@ -1,5 +1,6 @@
 -- Serves clause no_command of strand_main, for again: which words are pairs of a schedule and a stop.
-use Rattle.std.proofs.Common.{◌≡◌, ◌∙◌, ◌==◌, ℕ, ◌*◌, ◌-◌, ◌<◌, ◌≤◌, Bool, true, false, nat_le, List, [], ◌∷◌, length, map, take, drop, get_or, refl, sym, ap, arith}
+use Rattle.std.proofs.Common.{◌≡◌, ◌∙◌, ◌==◌, ℕ, ◌*◌, ◌-◌, ◌<◌, ◌≤◌, true, false, nat_le, List, [], ◌∷◌, length, map, take, drop, get_or, refl, sym, ap, arith}
+use Rattle.std.proofs.lemmas.Bool.Decides.{nat_tests}
 use Rattle.std.specs.Prelude.{Some, None, String, string_bytes}
 use Rattle.std.specs.Option.{is_none, is_some, option_and_then, option_map, unwrap_or}
 use Rattle.std.specs.declared.alloc.Global.{Global}
@@ -83,18 +84,19 @@ no_generations (a ∷ b ∷ words) few = absurd (omega (arith, few))
 
 module _ (machine image : List ℕ) (words : List (List ℕ)) where
   too_few : (pairs : List Pair) → length pairs < 1 → few_pairs machine image pairs ≡ None
-  too_few [] few = refl
-  too_few (p ∷ pairs) few = absurd (omega (arith, few))
+  too_few pairs few = let low : nat_le 1 (length pairs) ≡ false = grind (arith, nat_tests, few) in rw low refl
 
-  too_many : (pairs : List Pair) (b : Bool) → nat_le (length pairs) MOST_GENERATIONS ≡ b → MOST_GENERATIONS < length pairs → few_pairs machine image pairs ≡ None
-  too_many [] b is many = absurd (omega (arith, many))
-  too_many (p ∷ pairs) true is many = absurd (omega (arith, is, many))
-  too_many (p ∷ pairs) false is many = rw is refl
+  too_many : (pairs : List Pair) → MOST_GENERATIONS < length pairs → few_pairs machine image pairs ≡ None
+  too_many pairs many =
+      let low : nat_le 1 (length pairs) ≡ true = grind (arith, nat_tests, many) in
+      let high : nat_le (length pairs) MOST_GENERATIONS ≡ false = grind (arith, nat_tests, many) in
+      rw (low, high) refl
 
-  as_many : (pairs : List Pair) (b : Bool) → nat_le (length pairs) MOST_GENERATIONS ≡ b → 1 ≤ length pairs → length pairs ≤ MOST_GENERATIONS → few_pairs machine image pairs ≡ Some (again machine image pairs)
-  as_many [] b is some few = absurd (omega (arith, some))
-  as_many (p ∷ pairs) true is some few = rw is refl
-  as_many (p ∷ pairs) false is some few = absurd (omega (arith, is, few))
+  as_many : (pairs : List Pair) → 1 ≤ length pairs → length pairs ≤ MOST_GENERATIONS → few_pairs machine image pairs ≡ Some (again machine image pairs)
+  as_many pairs some few =
+      let low : nat_le 1 (length pairs) ≡ true = grind (arith, nat_tests, some) in
+      let high : nat_le (length pairs) MOST_GENERATIONS ≡ true = grind (arith, nat_tests, few) in
+      rw (low, high) refl
 
   -- too few words or too many
   pub none_few : length words < 2 → option_and_then (few_pairs machine image) (pairs_of words) ≡ None
@@ -109,7 +111,7 @@ module _ (machine image : List ℕ) (words : List (List ℕ)) where
     where
       go : (found : Option (List Pair)) → pairs_of words ≡ found → option_and_then (few_pairs machine image) found ≡ None
       go None is = refl
-      go (Some pairs) is = too_many pairs _ refl (omega (arith, (are_pairs words pairs is).long, many))
+      go (Some pairs) is = too_many pairs (omega (arith, (are_pairs words pairs is).long, many))
 
   -- words that are no pairs
   pub none_pairs : is_some (pairs_of words) ≡ false → option_and_then (few_pairs machine image) (pairs_of words) ≡ None
@@ -126,4 +128,4 @@ module _ (machine image : List ℕ) (words : List (List ℕ)) where
       go None is none = cc
       go (Some pairs) is some =
           let they = are_pairs words pairs is in
-          as_many pairs _ refl (omega (arith, they.long, low)) (omega (arith, they.long, high)) ∙ ap (λ (p : List Pair). Some (again machine image p)) they.same
+          as_many pairs (omega (arith, they.long, low)) (omega (arith, they.long, high)) ∙ ap (λ (p : List Pair). Some (again machine image p)) they.same
