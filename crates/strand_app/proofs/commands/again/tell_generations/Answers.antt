@@ -10,7 +10,7 @@ use Rattle.strand_app.proofs.Comes.{refused_comes}
 use Rattle.strand_app.proofs.commands.again.tell_generations.Goals as goal
 
 pub returns-in-Ok : goal.returns-in-Ok
-returns-in-Ok g c = generations_come _ _ _ _ _ _ _ _ _ (rw c.words.ensures at c.in-Ok.ensures.opens) c.generations_on_bank.ensures.kept c.generations_on_bank.ensures.made
+returns-in-Ok g c = generations_come _ _ _ _ _ _ _ _ _ (rw c.words.ensures at c.in-Ok.ensures.opens) c.generations_on_bank.ensures.kept (rw c.deref.ensures.value at c.generations_on_bank.ensures.made)
 
 pub returns-in-Err : goal.returns-in-Err
 returns-in-Err g c =
